@@ -1,0 +1,73 @@
+-- Laws of big-endian numbers: past the end nothing is read and nothing is written; two runs of writes,
+-- one behind the other, are one; what was written is read back.
+use mathlib.Core.Path.{_≡_, refl, sym, ap, _∙_}
+use mathlib.Core.List.{List, [], _∷_, _++_}
+use Prim.Native.Nat.{ℕ, suc, _+_, _≤_, _<_, _/_, _%_}
+use native.Mathlib.Nat.{add-zero, add-suc, suc-add}
+use native.Mathlib.Numerals.{add-one}
+use native.Mathlib.Omega.{arith}
+use lib.ListN.{length, getD, set, length-set, List·getD-eq-default}
+use lib.Seq.{set-out, sets, length-sets, getD-set-same, getD-set-other}
+use Rattle.basics.specs.Bytes.{twoAt, fourAt, twoBytes, fourBytes}
+
+pub two-past : (bytes : List ℕ) (at : ℕ) → length bytes ≤ at → twoAt bytes at ≡ 0
+unfolding twoAt
+two-past bytes at h =
+    let h′ : length bytes ≤ at + 1 = omega arith in
+    rw (List·getD-eq-default bytes 0 h, List·getD-eq-default bytes 0 h′)
+
+pub four-past : (bytes : List ℕ) (at : ℕ) → length bytes ≤ at → fourAt bytes at ≡ 0
+unfolding fourAt
+four-past bytes at h =
+    let h′ : length bytes ≤ at + 2 = omega arith in
+    rw (two-past bytes at h, two-past bytes (at + 2) h′)
+
+pub sets-past : (values bytes : List ℕ) (at : ℕ) → length bytes ≤ at → sets bytes at values ≡ bytes
+sets-past [] bytes at h = refl
+sets-past (v ∷ values) bytes at h =
+    let h′ : length bytes ≤ suc at = omega arith in
+    rw (set-out bytes at v h) (sets-past values bytes (suc at) h′)
+
+sets-append : (us vs bytes : List ℕ) (at : ℕ) → sets (sets bytes at us) (at + length us) vs ≡ sets bytes at (us ++ vs)
+sets-append [] vs bytes at = ap (λ (k : ℕ). sets bytes k vs) (add-zero at)
+sets-append (u ∷ us) vs bytes at =
+    ap (λ (k : ℕ). sets (sets (set bytes at u) (suc at) us) k vs) (add-suc at (length us) ∙ sym (suc-add at (length us)))
+    ∙ sets-append us vs (set bytes at u) (suc at)
+
+-- what two writes leave, the second behind the first
+pub sets-joined : (us vs bytes between after : List ℕ) (at : ℕ)
+    → between ≡ sets bytes at us → after ≡ sets between (at + length us) vs → after ≡ sets bytes at (us ++ vs)
+sets-joined us vs bytes between after at first second =
+    second ∙ ap (λ (l : List ℕ). sets l (at + length us) vs) first ∙ sets-append us vs bytes at
+
+-- what is written from a place on leaves the bytes before it
+before-sets : (values bytes : List ℕ) (at k : ℕ) → k < at → getD (sets bytes at values) k 0 ≡ getD bytes k 0
+before-sets [] bytes at k h = refl
+before-sets (v ∷ values) bytes at k h =
+    before-sets values (set bytes at v) (suc at) k (omega arith) ∙ getD-set-other bytes at k v 0 (omega arith)
+
+two-before : (values bytes : List ℕ) (at k : ℕ) → k + 1 < at → twoAt (sets bytes at values) k ≡ twoAt bytes k
+unfolding twoAt
+two-before values bytes at k h =
+    rw (before-sets values bytes at k (omega arith), before-sets values bytes at (k + 1) (omega arith))
+
+pub two-back : (bytes : List ℕ) (at v : ℕ) → at + 1 < length bytes → twoAt (sets bytes at (twoBytes v)) at ≡ v
+unfolding twoAt
+two-back bytes at v h =
+    let high : getD (sets bytes at (twoBytes v)) at 0 ≡ v / 256 =
+    getD-set-other (set bytes at (v / 256)) (suc at) at (v % 256) 0 (omega arith)
+    ∙ getD-set-same bytes at (v / 256) 0 (omega arith) in
+    let low : getD (sets bytes at (twoBytes v)) (at + 1) 0 ≡ v % 256 =
+    rw (add-one at) (getD-set-same (set bytes at (v / 256)) (suc at) (v % 256) 0 (simp length-set (omega arith))) in
+    omega arith
+
+pub four-back : (bytes : List ℕ) (at v : ℕ) → at + 3 < length bytes → fourAt (sets bytes at (fourBytes v)) at ≡ v
+unfolding fourAt
+four-back bytes at v h =
+    let halves = sets-append (twoBytes (v / 65536)) (twoBytes (v % 65536)) bytes at in
+    let first = sets bytes at (twoBytes (v / 65536)) in
+    let high : twoAt (sets first (at + 2) (twoBytes (v % 65536))) at ≡ v / 65536 =
+    two-before (twoBytes (v % 65536)) first (at + 2) at (omega arith) ∙ two-back bytes at (v / 65536) (omega arith) in
+    let low : twoAt (sets first (at + 2) (twoBytes (v % 65536))) (at + 2) ≡ v % 65536 =
+    two-back first (at + 2) (v % 65536) (omega (arith, length-sets bytes at (twoBytes (v / 65536)))) in
+    rw (← halves) (omega arith)

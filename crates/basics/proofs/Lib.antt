@@ -1,0 +1,7 @@
+-- Laws for the crates above; Theorems is the front door.
+pub mod Tests
+pub mod Table
+pub mod First
+pub mod Bytes
+pub mod One
+mod Theorems

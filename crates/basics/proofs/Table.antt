@@ -1,0 +1,37 @@
+-- Tables. A test that is computed once over the whole of a list holds at each entry; and a table that computes to the
+-- values of a function has them at each entry.
+use mathlib.Core.Path.{_≡_, sym, ap, _∙_}
+use mathlib.Core.Bool.{Bool, true, _&&_, and-eq-true-iff}
+use mathlib.Core.List.{List, [], _∷_}
+use Prim.Native.Nat.{ℕ, zero, suc, _+_, _<_}
+use native.Mathlib.Nat.{add-zero, zero-add, add-suc, suc-add, le-of-suc-le-suc, not-suc-le-zero}
+use lib.ListN.{length, getD}
+
+module _ {A : Type 0} where
+  abbrev pub every : (A → Bool) → List A → Bool
+  every test [] = true
+  every test (x ∷ xs) = test x && every test xs
+
+  pub at-entry : (test : A → Bool) (list : List A) (other : A) → every test list ≡ true
+      → (k : ℕ) → k < length list → test (getD list k other) ≡ true
+  at-entry test [] other whole k h = absurd (not-suc-le-zero h)
+  at-entry test (x ∷ xs) other whole zero h = and-eq-true-iff (test x) (every test xs) .0 whole .0
+  at-entry test (x ∷ xs) other whole (suc k) h =
+      at-entry test xs other (and-eq-true-iff (test x) (every test xs) .0 whole .1) k (le-of-suc-le-suc h)
+
+-- the values of f at i, i + 1, .., as many as n
+abbrev pub valuesFrom : ℕ → (ℕ → ℕ) → ℕ → List ℕ
+valuesFrom i f zero = []
+valuesFrom i f (suc n) = f i ∷ valuesFrom (suc i) f n
+
+value-from : (f : ℕ → ℕ) (n i k : ℕ) → k < n → getD (valuesFrom i f n) k 0 ≡ f (i + k)
+value-from f zero i k h = absurd (not-suc-le-zero h)
+value-from f (suc n) i zero h = ap f (sym (add-zero i))
+value-from f (suc n) i (suc k) h =
+    value-from f n (suc i) k (le-of-suc-le-suc h) ∙ ap f (suc-add i k ∙ sym (add-suc i k))
+
+abbrev pub values : (ℕ → ℕ) → ℕ → List ℕ
+values f n = valuesFrom 0 f n
+
+pub entry-is : (f : ℕ → ℕ) (n k : ℕ) → k < n → getD (values f n) k 0 ≡ f k
+entry-is f n k h = value-from f n 0 k h ∙ ap f (zero-add k)

@@ -1,0 +1,66 @@
+-- The front door: what is proved of the shared definitions, each theorem in full with the line that cites its proof.
+use mathlib.Core.Path.{_≡_}
+use mathlib.Core.Bool.{Bool, true, false}
+use mathlib.Core.List.{List}
+use mathlib.Core.Logic.{_↔_}
+use Prim.Native.Nat.{ℕ, suc, _+_, _<_}
+use lib.ListN.{length, getD}
+use lib.Seq.{sets}
+use denote.Ref.{now}
+use Rattle.basics.specs.First.{Check, firstOf, appliesAt, FirstAt}
+use Rattle.basics.specs.Answer.{Answers}
+use Rattle.basics.specs.Bytes.{twoAt, fourAt, twoBytes, fourBytes}
+use Rattle.basics.proofs.Table.{every, at-entry, values, entry-is}
+use Rattle.basics.proofs.First.{CountedFrom, first-exact, none-exact}
+use Rattle.basics.proofs.Bytes.{two-back, four-back}
+use Rattle.basics.proofs.One.{OneAnswer, OneContent, one-value, one-case}
+use Rattle.basics.proofs.two_at.Kinds as two-at-kinds
+use Rattle.basics.proofs.two_at.Reads as two-at
+use Rattle.basics.proofs.four_at.Kinds as four-at-kinds
+use Rattle.basics.proofs.four_at.Reads as four-at
+use Rattle.basics.proofs.put_two.Kinds as put-two-kinds
+use Rattle.basics.proofs.put_two.Reads as put-two
+use Rattle.basics.proofs.put_four.Kinds as put-four-kinds
+use Rattle.basics.proofs.put_four.Reads as put-four
+
+-- A number that was written where it has room is read back.
+two-right : (bytes : List ℕ) (at v : ℕ) → at + 1 < length bytes → twoAt (sets bytes at (twoBytes v)) at ≡ v
+two-right = two-back
+
+four-right : (bytes : List ℕ) (at v : ℕ) → at + 3 < length bytes → fourAt (sets bytes at (fourBytes v)) at ≡ v
+four-right = four-back
+
+-- Of checks numbered 1, 2, 3, .., the number i + 1 is answered exactly where the check at place i is the first to
+-- apply, and 0 exactly where none applies.
+first-right : (checks : List Check) → CountedFrom 1 checks → (i : ℕ) → (firstOf checks ≡ i + 1) ↔ FirstAt checks i
+first-right = first-exact
+
+first-complete : (checks : List Check) → CountedFrom 1 checks → (firstOf checks ≡ 0) ↔ ((i : ℕ) → appliesAt checks i ≡ false)
+first-complete = none-exact 0
+
+-- A test that is computed once over a whole list holds at each entry, and a table that computes to the values of a
+-- function has them at each entry.
+test-right : {A : Type 0} (test : A → Bool) (list : List A) (other : A) → every test list ≡ true
+    → (k : ℕ) → k < length list → test (getD list k other) ≡ true
+test-right = at-entry
+
+table-right : (f : ℕ → ℕ) (n k : ℕ) → k < n → getD (values f n) k 0 ≡ f k
+table-right = entry-is
+
+-- Two answers that the promise of an enum allows are equal.
+answer-unique : {A B : Type 0} {told : A → B} {caseOf : B → A} {right : B} {x y : A}
+    → Answers told caseOf right x → Answers told caseOf right y → x ≡ y
+answer-unique = one-case
+
+-- Two answers, or two contents of the lent bytes, that the promise of a public function allows are equal.
+two-at-unique : OneAnswer 1 two-at-kinds.ps two-at-kinds.r two-at.Post
+two-at-unique κs args x y s t p q = one-value p q
+
+four-at-unique : OneAnswer 1 four-at-kinds.ps four-at-kinds.r four-at.Post
+four-at-unique κs args x y s t p q = one-value p q
+
+put-two-unique : OneContent 1 put-two-kinds.ps put-two-kinds.r put-two.Post (λ κs exit. now (exit .0))
+put-two-unique κs args x y s t p q = one-value p q
+
+put-four-unique : OneContent 1 put-four-kinds.ps put-four-kinds.r put-four.Post (λ κs exit. now (exit .0))
+put-four-unique κs args x y s t p q = one-value p q

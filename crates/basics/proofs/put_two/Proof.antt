@@ -1,0 +1,49 @@
+use mathlib.Core.Path.{sym}
+use mathlib.Core.List.{[], _∷_}
+use Prim.Native.Nat.{_/_, _%_}
+use Rattle.basics.specs.Bytes.{twoBytes}
+use Rattle.basics.proofs.Bytes.{sets-past, sets-joined}
+use borrow.Author.Needs.{needs}
+use Rattle.basics.proofs.put_two.Statement.{statement}
+use Rattle.basics.proofs.put_two.Tie as tie
+
+cast-put-byte : tie.Need-cast-put-byte
+cast-put-byte c = search needs
+
+put-byte-requires : tie.Need-put-byte-requires
+put-byte-requires c κs = search needs
+
+add-put-byte : tie.Need-add-put-byte
+add-put-byte c = search needs
+
+cast-put-byte-2 : tie.Need-cast-put-byte-2
+cast-put-byte-2 c = search needs
+
+put-byte-requires-2 : tie.Need-put-byte-requires-2
+put-byte-requires-2 c κs = search needs
+
+same-length : tie.Need-same-length
+same-length c = search needs
+
+returns : tie.Need-returns
+returns c =
+    let a = c .before .before .before .before .before .before .before .before .before .before .args in
+    sets-joined (a .v / 256 ∷ []) (a .v % 256 ∷ []) (a .s .now) _ _ (a .at)
+    (c .before .before .before .before .before .before .put-byte .ensures)
+    (c .before .before .put-byte2 .ensures)
+
+returns-2 : tie.Need-returns-2
+returns-2 c = sym (sets-past (twoBytes (c .before .before .args .v)) (c .before .before .args .s .now) (c .before .before .args .at) (c .if1 .left))
+
+pub put-two-spec : {M : Type 1} → statement M
+put-two-spec =
+    tie.close
+    (tie.spec
+    cast-put-byte
+    put-byte-requires
+    add-put-byte
+    cast-put-byte-2
+    put-byte-requires-2
+    same-length
+    returns
+    returns-2)

@@ -1,0 +1,32 @@
+-- Numbers that are checked in an order, as the paper's marks and refusals are: the first that applies is answered, and
+-- 0 where none does.
+use mathlib.Core.Path.{_≡_}
+use mathlib.Core.Bool.{Bool, true, false}
+use mathlib.Core.List.{List, [], _∷_}
+use Prim.Native.Nat.{ℕ, zero, suc, _<_}
+use Rattle.basics.specs.Choice.{if_then_else_}
+
+infix 15 _when_
+-- a number, and the test by which it applies
+pub data Check : Type 0 where
+  _when_ : ℕ → Bool → Check
+
+abbrev pub firstOf : List Check → ℕ
+firstOf [] = 0
+firstOf ((k when t) ∷ rest) = if t then k else firstOf rest
+
+-- the number, and the outcome of the test, at place i of the order; past its end 0, and a test that fails
+abbrev pub numberAt : List Check → ℕ → ℕ
+numberAt [] i = 0
+numberAt ((k when t) ∷ rest) zero = k
+numberAt ((k when t) ∷ rest) (suc i) = numberAt rest i
+
+abbrev pub appliesAt : List Check → ℕ → Bool
+appliesAt [] i = false
+appliesAt ((k when t) ∷ rest) zero = t
+appliesAt ((k when t) ∷ rest) (suc i) = appliesAt rest i
+
+-- the check at place i applies, and none before it does
+pub record FirstAt (checks : List Check) (i : ℕ) : Type 0 where
+  pub applies : appliesAt checks i ≡ true
+  pub none-before : (j : ℕ) → j < i → appliesAt checks j ≡ false

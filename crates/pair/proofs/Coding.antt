@@ -1,0 +1,223 @@
+-- Laws of decoding and encoding: each answer tells the numbers that it was made of, and the two undo each other.
+use mathlib.Core.Path.{_≡_, refl, sym, ap, _∙_}
+use mathlib.Core.Bool.{Bool, true, false, not, _&&_, and-eq-true-iff, false≢true}
+use mathlib.Core.Logic.{_↔_}
+use Prim.Native.Nat.{ℕ, _+_, _*_, _/_, _%_, _≤_, _<_}
+use native.Mathlib.Omega.{arith}
+use lib.Dec.{leb, ltb, eqb, lit<}
+use borrow.Author.Tests.{leb-true, ltb-false, eqb-true, eqb-false, eq-eqb, ne-eqb, le-leb, le-ltb, not-false}
+use Rattle.basics.specs.Answer.{Answers}
+use Rattle.basics.proofs.One.{answers}
+use Rattle.basics.proofs.First.{CountedFrom, none-exact}
+use Rattle.pair.specs.Request.{requests, listed, carries}
+use Rattle.pair.specs.Marks.{codeOf, channelOf, bridgedOf, bit5, lineBits, faults, mark}
+use Rattle.pair.specs.Coder.{sectionsFit, decodingTold, decodingCase, decoding}
+use Rattle.pair.specs.Coder.{lineOf, encodingTold, encodingCase, encodable, encoding}
+use Rattle.pair.specs.declared.Pair.{Pair}
+use Rattle.pair.specs.declared.Decoded.{Decoded}
+use Rattle.pair.specs.declared.Decoded.the-variants as decoded
+use Rattle.pair.specs.declared.Encoded.{Encoded}
+use Rattle.pair.specs.declared.Encoded.the-variants as encoded
+use Rattle.pair.proofs.Rows.{carried-below, carried-within, carried-listed}
+
+decoding-whole : (n k1 k2 : ℕ) → decodingTold (decodingCase (decoding n k1 k2)) ≡ decoding n k1 k2
+unfolding decoding
+decoding-whole n k1 k2 = go (sectionsFit n) (eqb (mark n k1 k2) 0) refl refl
+  where
+    go : (f z : Bool) → sectionsFit n ≡ f → eqb (mark n k1 k2) 0 ≡ z → decodingTold (decodingCase (decoding n k1 k2)) ≡ decoding n k1 k2
+    go true true fits zero = rw (fits, zero)
+    go true false fits zero = rw (fits, zero) (rw zero)
+    go false z fits zero = rw fits
+
+pub decoded-by : (n k1 k2 : ℕ) {r : Decoded} → r ≡ decodingCase (decoding n k1 k2)
+    → Answers decodingTold decodingCase (decoding n k1 k2) r
+decoded-by n k1 k2 e = answers (decoding-whole n k1 k2) e
+
+encoding-whole : (n : ℕ) (p : Pair) → encodingTold (encodingCase (encoding n p)) ≡ encoding n p
+unfolding encoding
+encoding-whole n p = go (sectionsFit n) (encodable n p) refl refl
+  where
+    go : (f e : Bool) → sectionsFit n ≡ f → encodable n p ≡ e → encodingTold (encodingCase (encoding n p)) ≡ encoding n p
+    go true true fits can = rw (fits, can)
+    go true false fits can = rw (fits, can)
+    go false e fits can = rw fits
+
+pub encoded-by : (n : ℕ) (p : Pair) {r : Encoded} → r ≡ encodingCase (encoding n p)
+    → Answers encodingTold encodingCase (encoding n p) r
+encoded-by n p e = answers (encoding-whole n p) e
+
+pub line-below : (remote : Bool) → lineOf remote < 8
+line-below true = lit< tt
+line-below false = lit< tt
+
+-- each part of a record that is encoded has room in its four bits
+pub record FourBits (p : Pair) : Type 0 where
+  pub code : p .code < 16
+  pub channel : p .channel < 16
+  pub bridged : p .bridged < 16
+
+pub four-bits : (n : ℕ) (p : Pair) → sectionsFit n ≡ true → encodable n p ≡ true → FourBits p
+four-bits n p fits h =
+    let parts = and-eq-true-iff (carries requests n (p .code) (p .channel)) (leb (p .bridged) n) .0 h in
+    let most : n ≤ 14 = leb-true n 14 (and-eq-true-iff (leb 1 n) (leb n 14) .0 fits .1) in
+    let channel : p .channel ≤ n = carried-within requests n (p .code) (p .channel) (parts .0) in
+    let bridged : p .bridged ≤ n = leb-true (p .bridged) n (parts .1) in
+    record {
+      code = carried-below 16 requests n (p .code) (p .channel) refl (parts .0);
+      channel = omega arith;
+      bridged = omega arith;
+    }
+
+-- the record that a usable pair decodes to
+abbrev pub pairOf : ℕ → ℕ → Pair
+pairOf k1 k2 =
+    record { code = codeOf k1; channel = channelOf k1; bridged = bridgedOf k2; remote = eqb (lineBits k2) 0b110 }
+
+-- what the five checks leave of a usable pair
+pub record UsablePair (n k1 k2 : ℕ) : Type 0 where
+  pub fits : sectionsFit n ≡ true
+  pub one : bit5 k2 ≡ 1
+  pub line : lineOf (eqb (lineBits k2) 0b110) ≡ lineBits k2
+  pub carried : carries requests n (codeOf k1) (channelOf k1) ≡ true
+  pub bridged : leb (bridgedOf k2) n ≡ true
+
+line-given : (l : ℕ) → not (eqb l 0b000) && not (eqb l 0b110) ≡ false → lineOf (eqb l 0b110) ≡ l
+line-given l h = go (eqb l 0b000) (eqb l 0b110) refl refl
+  where
+    go : (a b : Bool) → eqb l 0b000 ≡ a → eqb l 0b110 ≡ b → lineOf (eqb l 0b110) ≡ l
+    go a true ea eb = rw eb (sym (eqb-true l 0b110 eb))
+    go true false ea eb = rw eb (sym (eqb-true l 0b000 ea))
+    go false false ea eb = absurd (false≢true (sym (rw (ea, eb) at h)))
+
+pub faults-counted : (n k1 k2 : ℕ) → CountedFrom 1 (faults n k1 k2)
+faults-counted n k1 k2 = (refl, (refl, (refl, (refl, (refl, tt)))))
+
+unmarked : (n k1 k2 : ℕ) → sectionsFit n ≡ true → mark n k1 k2 ≡ 0 → UsablePair n k1 k2
+unfolding mark
+unmarked n k1 k2 fits h =
+    let none = none-exact 0 (faults n k1 k2) (faults-counted n k1 k2) .0 h in
+    let bit : bit5 k2 ≡ 0 → ⊥ = eqb-false (bit5 k2) 0 (none 0) in
+    let below : bridgedOf k2 ≤ n = ltb-false n (bridgedOf k2) (none 4) in
+    record {
+      fits = fits;
+      one = omega arith;
+      line = line-given (lineBits k2) (none 1);
+      carried = not-false (carries requests n (codeOf k1) (channelOf k1)) (none 3);
+      bridged = le-leb (bridgedOf k2) n below;
+    }
+
+line-taken : (l : ℕ) → lineOf (eqb l 0b110) ≡ l → not (eqb l 0b000) && not (eqb l 0b110) ≡ false
+line-taken l h = go (eqb l 0b000) (eqb l 0b110) refl refl
+  where
+    go : (a b : Bool) → eqb l 0b000 ≡ a → eqb l 0b110 ≡ b → not (eqb l 0b000) && not (eqb l 0b110) ≡ false
+    go true b ea eb = rw ea
+    go false true ea eb = rw (ea, eb)
+    go false false ea eb = absurd (eqb-false l 0b000 ea (sym (rw eb at h)))
+
+mark-none : (n k1 k2 : ℕ) → UsablePair n k1 k2 → mark n k1 k2 ≡ 0
+unfolding mark
+mark-none n k1 k2 u =
+    let one = u .one in
+    let bit : eqb (bit5 k2) 0 ≡ false = ne-eqb (bit5 k2) 0 (omega arith) in
+    let known = carried-listed requests n (codeOf k1) (channelOf k1) (u .carried) in
+    let below : ltb n (bridgedOf k2) ≡ false = le-ltb n (bridgedOf k2) (leb-true (bridgedOf k2) n (u .bridged)) in
+    rw (bit, line-taken (lineBits k2) (u .line), known, u .carried, below)
+
+pub usable-facts : (n k1 k2 : ℕ) (p : Pair) → decodingCase (decoding n k1 k2) ≡ decoded.Usable p → UsablePair n k1 k2 × (p ≡ pairOf k1 k2)
+unfolding decoding
+usable-facts n k1 k2 p h = go (sectionsFit n) (eqb (mark n k1 k2) 0) refl refl
+  where
+    go : (f z : Bool) → sectionsFit n ≡ f → eqb (mark n k1 k2) 0 ≡ z → UsablePair n k1 k2 × (p ≡ pairOf k1 k2)
+    go true true fits zero =
+        let e : decoded.Usable (pairOf k1 k2) ≡ decoded.Usable p = rw (fits, zero) at h in
+        (unmarked n k1 k2 fits (eqb-true (mark n k1 k2) 0 zero), cc)
+    go true false fits zero =
+        let e : decoded.Marked (mark n k1 k2) ≡ decoded.Usable p = simp (fits, zero) at h in
+        let none : _≡_ {A = ℕ} 0 1 = cc in absurd (omega arith)
+    go false z fits zero =
+        let e : decoded.Refused 1 ≡ decoded.Usable p = rw fits at h in
+        let none : _≡_ {A = ℕ} 0 1 = cc in absurd (omega arith)
+
+pub facts-usable : (n k1 k2 : ℕ) → UsablePair n k1 k2 → decodingCase (decoding n k1 k2) ≡ decoded.Usable (pairOf k1 k2)
+unfolding decoding
+facts-usable n k1 k2 u = rw (u .fits, mark-none n k1 k2 u)
+
+-- the bytes that a record is encoded to
+abbrev pub firstByte : Pair → ℕ
+firstByte p = p .code * 16 + p .channel
+
+abbrev pub secondByte : Pair → ℕ
+secondByte p = p .bridged * 16 + 0b1000 + lineOf (p .remote)
+
+line-read : (remote : Bool) → eqb (lineOf remote) 0b110 ≡ remote
+line-read true = refl
+line-read false = refl
+
+bytes-usable : (n : ℕ) (p : Pair) → sectionsFit n ≡ true → encodable n p ≡ true
+    → UsablePair n (firstByte p) (secondByte p) × (pairOf (firstByte p) (secondByte p) ≡ p)
+bytes-usable n p fits can =
+    let room = four-bits n p fits can in
+    let short = line-below (p .remote) in
+    let parts = and-eq-true-iff (carries requests n (p .code) (p .channel)) (leb (p .bridged) n) .0 can in
+    let code : codeOf (firstByte p) ≡ p .code = omega arith in
+    let channel : channelOf (firstByte p) ≡ p .channel = omega arith in
+    let bridged : bridgedOf (secondByte p) ≡ p .bridged = omega arith in
+    let line : lineBits (secondByte p) ≡ lineOf (p .remote) = omega arith in
+    let eighth : secondByte p / 8 ≡ p .bridged * 2 + 1 = omega arith in
+    let read : eqb (lineBits (secondByte p)) 0b110 ≡ p .remote =
+        ap (λ (l : ℕ). eqb l 0b110) line ∙ line-read (p .remote) in
+    (record {
+      fits = fits;
+      one = rw eighth (omega arith);
+      line = ap lineOf read ∙ sym line;
+      carried = rw (code, channel) (parts .0);
+      bridged = rw bridged (parts .1);
+    },
+    λ i. record { code = code i; channel = channel i; bridged = bridged i; remote = read i })
+
+encoded-facts : (n : ℕ) (p : Pair) (k1 k2 : ℕ) → encodingCase (encoding n p) ≡ encoded.Bytes k1 k2
+    → (sectionsFit n ≡ true) × (encodable n p ≡ true) × (firstByte p ≡ k1) × (secondByte p ≡ k2)
+unfolding encoding
+encoded-facts n p k1 k2 h = go (sectionsFit n) (encodable n p) refl refl
+  where
+    go : (f e : Bool) → sectionsFit n ≡ f → encodable n p ≡ e
+        → (sectionsFit n ≡ true) × (encodable n p ≡ true) × (firstByte p ≡ k1) × (secondByte p ≡ k2)
+    go true true fits can =
+        let e : encoded.Bytes (firstByte p) (secondByte p) ≡ encoded.Bytes k1 k2 = simp (fits, can) at h in
+        (fits, can, cc, cc)
+    go true false fits can =
+        let e : encoded.Refused 10 ≡ encoded.Bytes k1 k2 = simp (fits, can) at h in
+        let none : _≡_ {A = ℕ} 0 1 = cc in absurd (omega arith)
+    go false e fits can =
+        let e : encoded.Refused 1 ≡ encoded.Bytes k1 k2 = simp fits at h in
+        let none : _≡_ {A = ℕ} 0 1 = cc in absurd (omega arith)
+
+pair-encodable : (n k1 k2 : ℕ) → UsablePair n k1 k2 → encodable n (pairOf k1 k2) ≡ true
+pair-encodable n k1 k2 u = rw (u .carried) (u .bridged)
+
+pub pair-back : (n k1 k2 : ℕ) (p : Pair) → decodingCase (decoding n k1 k2) ≡ decoded.Usable p
+    → encodingCase (encoding n p) ≡ encoded.Bytes k1 k2
+unfolding encoding
+pair-back n k1 k2 p h =
+    let facts = usable-facts n k1 k2 p h in
+    let u = facts .0 in
+    let one = u .one in
+    let line = u .line in
+    let first : firstByte (pairOf k1 k2) ≡ k1 = omega arith in
+    let second : secondByte (pairOf k1 k2) ≡ k2 = omega arith in
+    rw (facts .1, u .fits, pair-encodable n k1 k2 u, first, second)
+
+pub record-back : (n : ℕ) (p : Pair) (k1 k2 : ℕ) → encodingCase (encoding n p) ≡ encoded.Bytes k1 k2
+    → decodingCase (decoding n k1 k2) ≡ decoded.Usable p
+record-back n p k1 k2 h =
+    let facts = encoded-facts n p k1 k2 h in
+    let made = bytes-usable n p (facts .0) (facts .1) in
+    rw (← facts .2, ← facts .3) (facts-usable n (firstByte p) (secondByte p) (made .0) ∙ ap decoded.Usable (made .1))
+
+pub encodable-exact : (n : ℕ) (p : Pair) → sectionsFit n ≡ true
+    → (encodable n p ≡ true) ↔ ((k1 : ℕ) × (k2 : ℕ) × (decodingCase (decoding n k1 k2) ≡ decoded.Usable p))
+encodable-exact n p fits =
+    (λ can. (firstByte p, secondByte p,
+      facts-usable n (firstByte p) (secondByte p) (bytes-usable n p fits can .0) ∙ ap decoded.Usable (bytes-usable n p fits can .1)),
+    λ some. let facts = usable-facts n (some .0) (some .1) p (some .2) in
+      rw (facts .1) (pair-encodable n (some .0) (some .1) (facts .0)))

@@ -1,0 +1,5 @@
+-- Laws for the crates above; Theorems is the front door.
+pub mod Rows
+pub mod Coding
+pub mod Ranks
+mod Theorems

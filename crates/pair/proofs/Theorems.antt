@@ -1,0 +1,70 @@
+-- The front door: what is proved of the coder, each theorem in full with the line that cites its proof.
+use mathlib.Core.Path.{_≡_}
+use mathlib.Core.Bool.{true, false}
+use mathlib.Core.Logic.{_↔_}
+use Prim.Native.Nat.{ℕ, _+_, _<_}
+use lib.ListN.{length}
+use Rattle.basics.specs.First.{appliesAt, FirstAt}
+use Rattle.basics.proofs.First.{first-exact, none-exact}
+use Rattle.basics.proofs.One.{OneAnswer, one-value, one-case}
+use Rattle.pair.specs.Request.{requests, stands, rankOf}
+use Rattle.pair.specs.Marks.{faults, mark}
+use Rattle.pair.specs.Coder.{sectionsFit, decodingCase, decoding, encodingCase, encodable, encoding}
+use Rattle.pair.specs.declared.Pair.{Pair}
+use Rattle.pair.specs.declared.Decoded.the-variants as decoded
+use Rattle.pair.specs.declared.Encoded.the-variants as encoded
+use Rattle.pair.proofs.Coding.{faults-counted, pair-back, record-back, encodable-exact}
+use Rattle.pair.proofs.Ranks.{rowAt, row-rank, usable-row, fail-outranks}
+use Rattle.pair.proofs.decode.Kinds as decode-kinds
+use Rattle.pair.proofs.decode.Reads as decode
+use Rattle.pair.proofs.encode.Kinds as encode-kinds
+use Rattle.pair.proofs.encode.Reads as encode
+use Rattle.pair.proofs.request.rank.Kinds as rank-kinds
+use Rattle.pair.proofs.request.rank.Reads as rank
+
+-- Decoding a usable pair and encoding the record gives the pair back.
+pair-right : (n k1 k2 : ℕ) (p : Pair) → decodingCase (decoding n k1 k2) ≡ decoded.Usable p
+    → encodingCase (encoding n p) ≡ encoded.Bytes k1 k2
+pair-right = pair-back
+
+-- Encoding a record that is not refused and decoding the bytes gives the record back.
+record-right : (n : ℕ) (p : Pair) (k1 k2 : ℕ) → encodingCase (encoding n p) ≡ encoded.Bytes k1 k2
+    → decodingCase (decoding n k1 k2) ≡ decoded.Usable p
+record-right = record-back
+
+-- A record is encoded exactly if some usable pair decodes to it; refusal 10 is for all others.
+encodable-right : (n : ℕ) (p : Pair) → sectionsFit n ≡ true
+    → (encodable n p ≡ true) ↔ ((k1 : ℕ) × (k2 : ℕ) × (decodingCase (decoding n k1 k2) ≡ decoded.Usable p))
+encodable-right = encodable-exact
+
+-- The marks come in the paper's order: a pair has mark i + 1 exactly if the fault at place i is its first, so that a
+-- pair with several faults has one mark, and a pair is usable exactly if it has no fault.
+marks-right : (n k1 k2 i : ℕ) → (mark n k1 k2 ≡ i + 1) ↔ FirstAt (faults n k1 k2) i
+unfolding mark
+marks-right n k1 k2 = first-exact (faults n k1 k2) (faults-counted n k1 k2)
+
+marks-complete : (n k1 k2 : ℕ) → (mark n k1 k2 ≡ 0) ↔ ((i : ℕ) → appliesAt (faults n k1 k2) i ≡ false)
+unfolding mark
+marks-complete n k1 k2 = none-exact 0 (faults n k1 k2) (faults-counted n k1 k2)
+
+-- The request of a usable pair stands in a row of the table, and has the rank of each row that it stands in.
+row-complete : (n k1 k2 : ℕ) (p : Pair) → decodingCase (decoding n k1 k2) ≡ decoded.Usable p
+    → (i : ℕ) × (i < length requests) × (stands (rowAt i) n (p .code) (p .channel) ≡ true)
+row-complete = usable-row
+
+rank-right : (n code c i : ℕ) → i < length requests → stands (rowAt i) n code c ≡ true → rankOf code c ≡ rowAt i .rank
+rank-right = row-rank
+
+-- SF0 outranks FS, whatever its channel.
+fail-right : (c : ℕ) → rankOf 0b1110 c < rankOf 0b1101 0
+fail-right = fail-outranks
+
+-- Two answers that the promise of a public function allows are equal.
+decode-unique : OneAnswer 0 decode-kinds.ps decode-kinds.r decode.Post
+decode-unique κs args x y s t p q = one-case p q
+
+encode-unique : OneAnswer 0 encode-kinds.ps encode-kinds.r encode.Post
+encode-unique κs args x y s t p q = one-case p q
+
+rank-unique : OneAnswer 0 rank-kinds.ps rank-kinds.r rank.Post
+rank-unique κs args x y s t p q = one-value p q

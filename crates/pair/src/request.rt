@@ -1,0 +1,49 @@
+// The table of requests, as constant tables by request code and channel class (channel 0, or a section).
+ghost use mathlib.Core.Path.{_≡_};
+ghost use Rattle.pair.specs.Request.{requests, listed, carries, rankOf};
+
+const CODES: u8 = 16;
+
+// SF0 outranks FS: 1101 is above 1110 in the first table, and below it in the second (01; G.873.1, 8.9).
+const RANKS_OF_CHANNEL_0: [u8; 16] = [0, 0, 0, 0, 0, 0, 0, 0, 0, 0, 0, 5, 0, 9, 0, 10];
+
+const RANKS_OF_SECTIONS: [u8; 16] = [0, 0, 0, 0, 0, 0, 2, 0, 3, 0, 4, 5, 6, 7, 8, 0];
+
+// The channels that a code may carry: 1 for channel 0, 2 for the sections, 3 for both, 0 for a code in no row.
+const CHANNELS: [u8; 16] = [1, 0, 3, 0, 0, 0, 2, 0, 2, 0, 2, 3, 2, 3, 2, 1];
+
+pub fn rank(code: u8, channel: u8) -> u8
+    ensures { λ r. ⌜ r ≡ rankOf code channel ⌝ }
+{
+    if code < CODES {
+        if channel == 0 {
+            RANKS_OF_CHANNEL_0[code as usize]
+        } else {
+            RANKS_OF_SECTIONS[code as usize]
+        }
+    } else {
+        0
+    }
+}
+
+// With one section, a code in some row carries channel 0 or channel 1.
+pub(crate) fn listed(code: u8) -> bool
+    ensures { λ r. ⌜ r ≡ listed requests code ⌝ }
+{
+    carries(1, code, 0) | carries(1, code, 1)
+}
+
+pub(crate) fn carries(n: u8, code: u8, channel: u8) -> bool
+    ensures { λ r. ⌜ r ≡ carries requests n code channel ⌝ }
+{
+    if code < CODES {
+        let channels = CHANNELS[code as usize];
+        if channel == 0 {
+            channels % 2 == 1
+        } else {
+            (2 <= channels) & (channel <= n)
+        }
+    } else {
+        false
+    }
+}

@@ -1,0 +1,421 @@
+//! The coder of the K1/K2 byte pair (paper: "The byte pair"), with the two
+//! refusals that concern it (paper: "Numbered refusals").
+
+use std::ops::RangeInclusive;
+
+/// The most working sections a group can have (paper: "Settings and what the
+/// order covers").
+const MOST_SECTIONS: u8 = 14;
+
+/// Bit 5 of K2. The paper counts a byte's bits from 1 at the upper end.
+const ONE_TO_N: u8 = 0b0000_1000;
+
+const LINE_BITS: u8 = 0b0000_0111;
+const LINE_GOOD: u8 = 0b000;
+const LINE_REMOTE_DEFECT: u8 = 0b110;
+
+/// A call that is turned down, under the paper's number for it.
+#[derive(Clone, Copy, Debug, PartialEq, Eq)]
+#[repr(u8)]
+pub enum Refusal {
+    /// The number of working sections is out of range.
+    Sections = 1,
+    /// No usable pair decodes to the record.
+    Record = 10,
+}
+
+impl Refusal {
+    pub fn number(self) -> u8 {
+        self as u8
+    }
+}
+
+/// Why a pair is not usable, under the paper's number for it. Mark 0 has no
+/// case: a usable pair is a [`Received::Usable`].
+#[derive(Clone, Copy, Debug, PartialEq, Eq)]
+#[repr(u8)]
+pub enum Mark {
+    BitFive = 1,
+    LineBits = 2,
+    Code = 3,
+    Channel = 4,
+    Bridged = 5,
+}
+
+impl Mark {
+    pub fn number(self) -> u8 {
+        self as u8
+    }
+}
+
+/// What a usable pair says. The fields are plain bytes, because a caller may
+/// hand any record to [`encode`].
+#[derive(Clone, Copy, Debug, PartialEq, Eq, Hash)]
+pub struct Record {
+    pub code: u8,
+    pub channel: u8,
+    pub bridged: u8,
+    pub remote_defect: bool,
+}
+
+/// A pair that was looked at. An unusable one carries its mark and nothing
+/// else, so no caller can act on half a record.
+#[derive(Clone, Copy, Debug, PartialEq, Eq)]
+pub enum Received {
+    Usable(Record),
+    Marked(Mark),
+}
+
+/// The request codes that the paper's table uses. Code 1101 is one kind here
+/// although it has two rows there: what parts the rows is the channel.
+#[derive(Clone, Copy, Debug, PartialEq, Eq)]
+enum Request {
+    Lockout,
+    ForcedSwitch,
+    SignalFailHigh,
+    SignalFailLow,
+    SignalDegradeHigh,
+    SignalDegradeLow,
+    ManualSwitch,
+    WaitToRestore,
+    Reverse,
+    Nothing,
+}
+
+impl Request {
+    /// Takes the whole byte, so that a code of more than four bits is none.
+    fn from_code(code: u8) -> Option<Self> {
+        Some(match code {
+            0b1111 => Self::Lockout,
+            0b1110 => Self::ForcedSwitch,
+            0b1101 => Self::SignalFailHigh,
+            0b1100 => Self::SignalFailLow,
+            0b1011 => Self::SignalDegradeHigh,
+            0b1010 => Self::SignalDegradeLow,
+            0b1000 => Self::ManualSwitch,
+            0b0110 => Self::WaitToRestore,
+            0b0010 => Self::Reverse,
+            0b0000 => Self::Nothing,
+            _ => return None,
+        })
+    }
+
+    /// The channels the request may name in a group of `n` sections.
+    fn channels(self, n: u8) -> RangeInclusive<u8> {
+        match self {
+            Self::Lockout | Self::Nothing => 0..=0,
+            // Protection is always coded as a high priority section (paper: "One
+            // step", the local request), and may be what is answered.
+            Self::SignalFailHigh | Self::SignalDegradeHigh | Self::Reverse => 0..=n,
+            Self::ForcedSwitch
+            | Self::SignalFailLow
+            | Self::SignalDegradeLow
+            | Self::ManualSwitch
+            | Self::WaitToRestore => 1..=n,
+        }
+    }
+
+    /// Not the order of the codes: a failed protection section stands above a
+    /// forced switch, whose code is the greater (paper: "Errors a good reader
+    /// makes").
+    fn rank(self, channel: u8) -> u8 {
+        match (self, channel) {
+            (Self::Lockout, _) => 10,
+            (Self::SignalFailHigh, 0) => 9,
+            (Self::ForcedSwitch, _) => 8,
+            (Self::SignalFailHigh, _) => 7,
+            (Self::SignalFailLow, _) => 6,
+            (Self::SignalDegradeHigh, _) => 5,
+            (Self::SignalDegradeLow, _) => 4,
+            (Self::ManualSwitch, _) => 3,
+            (Self::WaitToRestore, _) => 2,
+            (Self::Reverse | Self::Nothing, _) => 0,
+        }
+    }
+}
+
+/// The rank of the table's row for a request code and channel, or 0 if they
+/// stand in no row. The size of the group plays no part, so every number that
+/// can be a section's in some group counts as a section.
+pub fn rank(code: u8, channel: u8) -> u8 {
+    Request::from_code(code)
+        .filter(|request| request.channels(MOST_SECTIONS).contains(&channel))
+        .map_or(0, |request| request.rank(channel))
+}
+
+/// Reads a received pair in a group of `n` sections.
+pub fn decode(n: u8, k1: u8, k2: u8) -> Result<Received, Refusal> {
+    check_sections(n)?;
+    Ok(match read(n, k1, k2) {
+        Ok(record) => Received::Usable(record),
+        Err(mark) => Received::Marked(mark),
+    })
+}
+
+/// Writes a record as the pair, K1 first, that decodes to it.
+pub fn encode(n: u8, record: Record) -> Result<[u8; 2], Refusal> {
+    check_sections(n)?;
+    let channels = Request::from_code(record.code)
+        .ok_or(Refusal::Record)?
+        .channels(n);
+    if !channels.contains(&record.channel) || record.bridged > n {
+        return Err(Refusal::Record);
+    }
+    let line = if record.remote_defect {
+        LINE_REMOTE_DEFECT
+    } else {
+        LINE_GOOD
+    };
+    Ok([
+        (record.code << 4) | record.channel,
+        (record.bridged << 4) | ONE_TO_N | line,
+    ])
+}
+
+fn check_sections(n: u8) -> Result<(), Refusal> {
+    if (1..=MOST_SECTIONS).contains(&n) {
+        Ok(())
+    } else {
+        Err(Refusal::Sections)
+    }
+}
+
+/// The order of the checks is the paper's: the first that fails is the mark.
+fn read(n: u8, k1: u8, k2: u8) -> Result<Record, Mark> {
+    if k2 & ONE_TO_N == 0 {
+        return Err(Mark::BitFive);
+    }
+    let remote_defect = match k2 & LINE_BITS {
+        LINE_GOOD => false,
+        LINE_REMOTE_DEFECT => true,
+        _ => return Err(Mark::LineBits),
+    };
+    let (code, channel) = nibbles(k1);
+    let request = Request::from_code(code).ok_or(Mark::Code)?;
+    if !request.channels(n).contains(&channel) {
+        return Err(Mark::Channel);
+    }
+    let (bridged, _) = nibbles(k2);
+    if bridged > n {
+        return Err(Mark::Bridged);
+    }
+    Ok(Record {
+        code,
+        channel,
+        bridged,
+        remote_defect,
+    })
+}
+
+fn nibbles(byte: u8) -> (u8, u8) {
+    (byte >> 4, byte & 0b1111)
+}
+
+#[cfg(test)]
+mod tests {
+    use super::*;
+    use std::collections::HashSet;
+
+    fn record(code: u8, channel: u8, bridged: u8, remote_defect: bool) -> Record {
+        Record {
+            code,
+            channel,
+            bridged,
+            remote_defect,
+        }
+    }
+
+    fn all_pairs() -> impl Iterator<Item = [u8; 2]> {
+        (0..=u16::MAX).map(u16::to_be_bytes)
+    }
+
+    fn usable(n: u8) -> impl Iterator<Item = ([u8; 2], Record)> {
+        all_pairs().filter_map(move |[k1, k2]| match decode(n, k1, k2) {
+            Ok(Received::Usable(record)) => Some(([k1, k2], record)),
+            _ => None,
+        })
+    }
+
+    #[test]
+    fn pairs_of_the_worked_sequences() {
+        let worked = [
+            ([0x00, 0x08], record(0b0000, 0, 0, false)),
+            ([0x00, 0x28], record(0b0000, 0, 2, false)),
+            ([0xA2, 0x08], record(0b1010, 2, 0, false)),
+            ([0xA2, 0x28], record(0b1010, 2, 2, false)),
+            ([0x22, 0x28], record(0b0010, 2, 2, false)),
+            ([0x21, 0x18], record(0b0010, 1, 1, false)),
+            ([0x62, 0x28], record(0b0110, 2, 2, false)),
+            ([0xC1, 0x08], record(0b1100, 1, 0, false)),
+            ([0xD0, 0x08], record(0b1101, 0, 0, false)),
+            ([0xD2, 0x08], record(0b1101, 2, 0, false)),
+            ([0xE1, 0x08], record(0b1110, 1, 0, false)),
+            ([0x82, 0x0E], record(0b1000, 2, 0, true)),
+            ([0xF0, 0x1E], record(0b1111, 0, 1, true)),
+        ];
+        for ([k1, k2], read) in worked {
+            assert_eq!(decode(2, k1, k2), Ok(Received::Usable(read)));
+            assert_eq!(encode(2, read), Ok([k1, k2]));
+        }
+    }
+
+    #[test]
+    fn marks_of_the_worked_sequences() {
+        let read = decode(14, 0xAE, 0xE8);
+        assert_eq!(
+            read,
+            Ok(Received::Usable(record(0b1010, 14, 14, false))),
+            "channel 14 of 14 works"
+        );
+        assert_eq!(decode(2, 0x11, 0x08), Ok(Received::Marked(Mark::Code)));
+        assert_eq!(decode(14, 0xAF, 0x08), Ok(Received::Marked(Mark::Channel)));
+        assert_eq!(decode(14, 0xAE, 0xF8), Ok(Received::Marked(Mark::Bridged)));
+    }
+
+    /// Starts with every fault at once and mends one after the other.
+    #[test]
+    fn the_first_fault_gives_the_mark() {
+        let mended = [
+            ([0x1F, 0xF1], 1),
+            ([0x1F, 0xF9], 2),
+            ([0x1F, 0xFE], 3),
+            ([0xAF, 0xFE], 4),
+            ([0xA2, 0xFE], 5),
+        ];
+        for ([k1, k2], number) in mended {
+            let Ok(Received::Marked(mark)) = decode(2, k1, k2) else {
+                panic!("{k1:02X} {k2:02X} has no mark");
+            };
+            assert_eq!(mark.number(), number, "{k1:02X} {k2:02X}");
+        }
+        let read = record(0b1010, 2, 2, true);
+        assert_eq!(decode(2, 0xA2, 0x2E), Ok(Received::Usable(read)));
+    }
+
+    #[test]
+    fn channels_at_the_edges_of_each_row() {
+        let rows = [
+            (0xF, 0, 0),
+            (0xE, 1, 5),
+            (0xD, 0, 5),
+            (0xC, 1, 5),
+            (0xB, 0, 5),
+            (0xA, 1, 5),
+            (0x8, 1, 5),
+            (0x6, 1, 5),
+            (0x2, 0, 5),
+            (0x0, 0, 0),
+        ];
+        for (code, first, last) in rows {
+            for channel in 0..=15 {
+                let read = decode(5, (code << 4) | channel, 0x08);
+                let expected = if (first..=last).contains(&channel) {
+                    Received::Usable(record(code, channel, 0, false))
+                } else {
+                    Received::Marked(Mark::Channel)
+                };
+                assert_eq!(read, Ok(expected), "{code:X}{channel:X}");
+            }
+        }
+    }
+
+    #[test]
+    fn ranks_fall_down_the_table() {
+        let rows = [
+            (0b1111, 0, 10),
+            (0b1101, 0, 9),
+            (0b1110, 1, 8),
+            (0b1101, 1, 7),
+            (0b1100, 1, 6),
+            (0b1011, 0, 5),
+            (0b1011, 14, 5),
+            (0b1010, 14, 4),
+            (0b1000, 14, 3),
+            (0b0110, 14, 2),
+            (0b0010, 0, 0),
+            (0b0000, 0, 0),
+        ];
+        for (code, channel, expected) in rows {
+            assert_eq!(rank(code, channel), expected, "{code:04b} {channel}");
+        }
+    }
+
+    #[test]
+    fn outside_the_table_the_rank_is_nothing() {
+        for (code, channel) in [
+            (0xF, 1),
+            (0xE, 0),
+            (0xC, 0),
+            (0xA, 0),
+            (0x8, 0),
+            (0x6, 0),
+            (0xD, 15),
+            (0xB, 255),
+            (0x9, 1),
+            (0x1F, 0),
+            (0xFD, 0),
+        ] {
+            assert_eq!(rank(code, channel), 0, "{code:X} {channel}");
+        }
+    }
+
+    #[test]
+    fn usable_pairs_come_back_from_their_records() {
+        for n in 1..=14 {
+            for (pair, record) in usable(n) {
+                assert_eq!(encode(n, record), Ok(pair), "n = {n}");
+            }
+        }
+    }
+
+    /// Counted by hand from the table: eight codes take n sections, five take
+    /// channel 0, and K2 has n + 1 bridges under two line states.
+    #[test]
+    fn as_many_usable_pairs_as_the_table_has_room_for() {
+        for n in 1..=14u8 {
+            let size = usize::from(n);
+            assert_eq!(usable(n).count(), (8 * size + 5) * (2 * size + 2));
+        }
+    }
+
+    #[test]
+    fn encode_refuses_what_no_usable_pair_decodes_to() {
+        for n in [2, 14] {
+            let known: HashSet<Record> = usable(n).map(|(_, record)| record).collect();
+            for triple in 0..18u16.pow(3) {
+                let field = |place: u32| (triple / 18u16.pow(place) % 18) as u8;
+                for remote in [false, true] {
+                    let tried = record(field(2), field(1), field(0), remote);
+                    let encoded = encode(n, tried);
+                    assert_eq!(encoded.is_ok(), known.contains(&tried), "{tried:?}");
+                    assert!(matches!(encoded, Ok(_) | Err(Refusal::Record)));
+                }
+            }
+        }
+    }
+
+    #[test]
+    fn every_byte_may_stand_in_a_record() {
+        for byte in 16..=255 {
+            for wrong in [
+                record(byte, 0, 0, false),
+                record(0b1011, byte, 0, false),
+                record(0b1011, 0, byte, true),
+            ] {
+                assert_eq!(encode(14, wrong), Err(Refusal::Record));
+            }
+        }
+    }
+
+    #[test]
+    fn the_number_of_sections_is_judged_first() {
+        let wrong = record(255, 255, 255, true);
+        for n in std::iter::once(0).chain(15..=255) {
+            assert_eq!(decode(n, 0x00, 0x08), Err(Refusal::Sections));
+            assert_eq!(decode(n, 0xFF, 0xF1), Err(Refusal::Sections));
+            assert_eq!(encode(n, wrong), Err(Refusal::Sections));
+        }
+        assert_eq!(Refusal::Sections.number(), 1);
+        assert_eq!(Refusal::Record.number(), 10);
+    }
+}
