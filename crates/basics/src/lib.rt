@@ -15,7 +15,8 @@ pub fn two_at(s: &[u8], at: usize) -> u16
     ensures { λ r. ⌜ r ≡ twoAt (now (s .entry)) at ⌝ }
 {
     if at < s.len() {
-        (byte_at(s, at) as u16) * 256 + byte_at(s, at + 1) as u16
+        let next = at + 1;
+        (byte_at(s, at) as u16) * 256 + byte_at(s, next) as u16
     } else {
         0
     }
@@ -25,7 +26,8 @@ pub fn four_at(s: &[u8], at: usize) -> u32
     ensures { λ r. ⌜ r ≡ fourAt (now (s .entry)) at ⌝ }
 {
     if at < s.len() {
-        (two_at(s, at) as u32) * 65536 + two_at(s, at + 2) as u32
+        let next = at + 2;
+        (two_at(s, at) as u32) * 65536 + two_at(s, next) as u32
     } else {
         0
     }
@@ -43,8 +45,9 @@ pub fn put_two(s: &mut [u8], at: usize, v: u16)
     ensures { λ _. ⌜ now (s .exit) ≡ sets (now (s .entry)) at (twoBytes v) ⌝ }
 {
     if at < s.len() {
+        let next = at + 1;
         put_byte(s, at, (v / 256) as u8);
-        put_byte(s, at + 1, (v % 256) as u8);
+        put_byte(s, next, (v % 256) as u8);
     }
 }
 
@@ -52,7 +55,8 @@ pub fn put_four(s: &mut [u8], at: usize, v: u32)
     ensures { λ _. ⌜ now (s .exit) ≡ sets (now (s .entry)) at (fourBytes v) ⌝ }
 {
     if at < s.len() {
+        let next = at + 2;
         put_two(s, at, (v / 65536) as u16);
-        put_two(s, at + 2, (v % 65536) as u16);
+        put_two(s, next, (v % 65536) as u16);
     }
 }

@@ -165,15 +165,16 @@ bytes-usable n p fits can =
     let line : lineBits (secondByte p) ≡ lineOf (p .remote) = omega arith in
     let eighth : secondByte p / 8 ≡ p .bridged * 2 + 1 = omega arith in
     let read : eqb (lineBits (secondByte p)) 0b110 ≡ p .remote =
-        ap (λ (l : ℕ). eqb l 0b110) line ∙ line-read (p .remote) in
-    (record {
-      fits = fits;
-      one = rw eighth (omega arith);
-      line = ap lineOf read ∙ sym line;
-      carried = rw (code, channel) (parts .0);
-      bridged = rw bridged (parts .1);
-    },
-    λ i. record { code = code i; channel = channel i; bridged = bridged i; remote = read i })
+    ap (λ (l : ℕ). eqb l 0b110) line ∙ line-read (p .remote) in (
+      record {
+        fits = fits;
+        one = rw eighth (omega arith);
+        line = ap lineOf read ∙ sym line;
+        carried = rw (code, channel) (parts .0);
+        bridged = rw bridged (parts .1);
+      },
+      λ i. record { code = code i; channel = channel i; bridged = bridged i; remote = read i },
+    )
 
 encoded-facts : (n : ℕ) (p : Pair) (k1 k2 : ℕ) → encodingCase (encoding n p) ≡ encoded.Bytes k1 k2
     → (sectionsFit n ≡ true) × (encodable n p ≡ true) × (firstByte p ≡ k1) × (secondByte p ≡ k2)
@@ -216,8 +217,12 @@ record-back n p k1 k2 h =
 
 pub encodable-exact : (n : ℕ) (p : Pair) → sectionsFit n ≡ true
     → (encodable n p ≡ true) ↔ ((k1 : ℕ) × (k2 : ℕ) × (decodingCase (decoding n k1 k2) ≡ decoded.Usable p))
-encodable-exact n p fits =
-    (λ can. (firstByte p, secondByte p,
-      facts-usable n (firstByte p) (secondByte p) (bytes-usable n p fits can .0) ∙ ap decoded.Usable (bytes-usable n p fits can .1)),
-    λ some. let facts = usable-facts n (some .0) (some .1) p (some .2) in
-      rw (facts .1) (pair-encodable n (some .0) (some .1) (facts .0)))
+encodable-exact n p fits = (
+  λ can. (
+    firstByte p,
+    secondByte p,
+    facts-usable n (firstByte p) (secondByte p) (bytes-usable n p fits can .0) ∙ ap decoded.Usable (bytes-usable n p fits can .1),
+  ),
+  λ some. let facts = usable-facts n (some .0) (some .1) p (some .2) in
+      rw (facts .1) (pair-encodable n (some .0) (some .1) (facts .0)),
+)

@@ -1,3 +1,4 @@
+-- `byte_at` meets its contract: past the end the byte is 0.
 use mathlib.Core.Path.{sym}
 use lib.ListN.{List·getD-eq-default}
 use borrow.Author.Needs.{needs}

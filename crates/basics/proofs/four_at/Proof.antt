@@ -1,9 +1,13 @@
+-- `four_at` meets its contract, by that of `two_at` at each half.
 use mathlib.Core.Path.{sym}
 use Rattle.basics.specs.Bytes.{fourAt}
 use Rattle.basics.proofs.Bytes.{four-past}
 use borrow.Author.Needs.{needs}
 use Rattle.basics.proofs.four_at.Statement.{statement}
 use Rattle.basics.proofs.four_at.Tie as tie
+
+add-next : tie.Need-add-next
+add-next c = search needs
 
 two-at-requires : tie.Need-two-at-requires
 two-at-requires c κs = search needs
@@ -13,9 +17,6 @@ cast-result c = search needs
 
 mul-result : tie.Need-mul-result
 mul-result c = search needs
-
-add-two-at : tie.Need-add-two-at
-add-two-at c = search needs
 
 two-at-requires-2 : tie.Need-two-at-requires-2
 two-at-requires-2 c κs = search needs
@@ -37,10 +38,10 @@ pub four-at-spec : {M : Type 1} → statement M
 four-at-spec =
     tie.close
     (tie.spec
+    add-next
     two-at-requires
     cast-result
     mul-result
-    add-two-at
     two-at-requires-2
     cast-result-2
     add-result

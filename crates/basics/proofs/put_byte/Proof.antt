@@ -1,3 +1,4 @@
+-- `put_byte` meets its contract: past the end nothing is stored.
 use mathlib.Core.Path.{sym}
 use lib.Seq.{set-out}
 use borrow.Author.Needs.{needs}

@@ -1,3 +1,4 @@
+-- `put_four` meets its contract, by that of `put_two` at each half.
 use mathlib.Core.Path.{sym}
 use Prim.Native.Nat.{_/_, _%_}
 use Rattle.basics.specs.Bytes.{twoBytes, fourBytes}
@@ -6,14 +7,14 @@ use borrow.Author.Needs.{needs}
 use Rattle.basics.proofs.put_four.Statement.{statement}
 use Rattle.basics.proofs.put_four.Tie as tie
 
+add-next : tie.Need-add-next
+add-next c = search needs
+
 cast-put-two : tie.Need-cast-put-two
 cast-put-two c = search needs
 
 put-two-requires : tie.Need-put-two-requires
 put-two-requires c κs = search needs
-
-add-put-two : tie.Need-add-put-two
-add-put-two c = search needs
 
 cast-put-two-2 : tie.Need-cast-put-two-2
 cast-put-two-2 c = search needs
@@ -32,15 +33,17 @@ returns c =
     (c .before .before .put-two2 .ensures)
 
 returns-2 : tie.Need-returns-2
-returns-2 c = sym (sets-past (fourBytes (c .before .before .args .v)) (c .before .before .args .s .now) (c .before .before .args .at) (c .if1 .left))
+returns-2 c =
+    let a = c .before .before .args in
+    sym (sets-past (fourBytes (a .v)) (a .s .now) (a .at) (c .if1 .left))
 
 pub put-four-spec : {M : Type 1} → statement M
 put-four-spec =
     tie.close
     (tie.spec
+    add-next
     cast-put-two
     put-two-requires
-    add-put-two
     cast-put-two-2
     put-two-requires-2
     same-length

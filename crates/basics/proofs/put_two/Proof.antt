@@ -1,3 +1,4 @@
+-- `put_two` meets its contract: the second byte is written behind the first, and past the end nothing is.
 use mathlib.Core.Path.{sym}
 use mathlib.Core.List.{[], _∷_}
 use Prim.Native.Nat.{_/_, _%_}
@@ -7,14 +8,14 @@ use borrow.Author.Needs.{needs}
 use Rattle.basics.proofs.put_two.Statement.{statement}
 use Rattle.basics.proofs.put_two.Tie as tie
 
+add-next : tie.Need-add-next
+add-next c = search needs
+
 cast-put-byte : tie.Need-cast-put-byte
 cast-put-byte c = search needs
 
 put-byte-requires : tie.Need-put-byte-requires
 put-byte-requires c κs = search needs
-
-add-put-byte : tie.Need-add-put-byte
-add-put-byte c = search needs
 
 cast-put-byte-2 : tie.Need-cast-put-byte-2
 cast-put-byte-2 c = search needs
@@ -33,15 +34,17 @@ returns c =
     (c .before .before .put-byte2 .ensures)
 
 returns-2 : tie.Need-returns-2
-returns-2 c = sym (sets-past (twoBytes (c .before .before .args .v)) (c .before .before .args .s .now) (c .before .before .args .at) (c .if1 .left))
+returns-2 c =
+    let a = c .before .before .args in
+    sym (sets-past (twoBytes (a .v)) (a .s .now) (a .at) (c .if1 .left))
 
 pub put-two-spec : {M : Type 1} → statement M
 put-two-spec =
     tie.close
     (tie.spec
+    add-next
     cast-put-byte
     put-byte-requires
-    add-put-byte
     cast-put-byte-2
     put-byte-requires-2
     same-length

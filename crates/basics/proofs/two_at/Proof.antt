@@ -1,9 +1,13 @@
+-- `two_at` meets its contract: a place within the slice by the two bytes, any other by what lies past the end.
 use mathlib.Core.Path.{sym}
 use Rattle.basics.specs.Bytes.{twoAt}
 use Rattle.basics.proofs.Bytes.{two-past}
 use borrow.Author.Needs.{needs}
 use Rattle.basics.proofs.two_at.Statement.{statement}
 use Rattle.basics.proofs.two_at.Tie as tie
+
+add-next : tie.Need-add-next
+add-next c = search needs
 
 byte-at-requires : tie.Need-byte-at-requires
 byte-at-requires c κs = search needs
@@ -13,9 +17,6 @@ cast-result c = search needs
 
 mul-result : tie.Need-mul-result
 mul-result c = search needs
-
-add-byte-at : tie.Need-add-byte-at
-add-byte-at c = search needs
 
 byte-at-requires-2 : tie.Need-byte-at-requires-2
 byte-at-requires-2 c κs = search needs
@@ -37,10 +38,10 @@ pub two-at-spec : {M : Type 1} → statement M
 two-at-spec =
     tie.close
     (tie.spec
+    add-next
     byte-at-requires
     cast-result
     mul-result
-    add-byte-at
     byte-at-requires-2
     cast-result-2
     add-result

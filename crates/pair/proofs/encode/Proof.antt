@@ -44,18 +44,25 @@ unfolding encoding
 returns c =
     let a = c .before .before .before .before .before .args in
     encoded-by (a .n) (a .p)
-    (simp
-    (← c .line-bits .ensures, c .before .if2 .taken, ← c .before .before .carries .ensures,
-    c .before .before .before .if1 .taken, ← c .before .before .before .before .sections-fit .ensures))
+    (simp (
+      ← c .line-bits .ensures,
+      c .before .if2 .taken,
+      ← c .before .before .carries .ensures,
+      c .before .before .before .if1 .taken,
+      ← c .before .before .before .before .sections-fit .ensures,
+    ))
 
 returns-2 : tie.Need-returns-2
 unfolding encoding
 returns-2 c =
     let a = c .before .before .before .before .args in
     encoded-by (a .n) (a .p)
-    (simp
-    (c .if2 .left, ← c .before .carries .ensures, c .before .before .if1 .taken,
-    ← c .before .before .before .sections-fit .ensures))
+    (simp (
+      c .if2 .left,
+      ← c .before .carries .ensures,
+      c .before .before .if1 .taken,
+      ← c .before .before .before .sections-fit .ensures,
+    ))
 
 returns-3 : tie.Need-returns-3
 unfolding encoding
