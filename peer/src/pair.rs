@@ -135,12 +135,13 @@ impl Request {
 }
 
 /// The rank of the table's row for a request code and channel, or 0 if they
-/// stand in no row. The size of the group plays no part, so every number that
-/// can be a section's in some group counts as a section.
+/// stand in no row. The size of the group plays no part, so every channel but 0
+/// counts as a section.
 pub fn rank(code: u8, channel: u8) -> u8 {
+    let class = channel.min(1);
     Request::from_code(code)
-        .filter(|request| request.channels(MOST_SECTIONS).contains(&channel))
-        .map_or(0, |request| request.rank(channel))
+        .filter(|request| request.channels(1).contains(&class))
+        .map_or(0, |request| request.rank(class))
 }
 
 /// Reads a received pair in a group of `n` sections.
@@ -329,6 +330,7 @@ mod tests {
             (0b1100, 1, 6),
             (0b1011, 0, 5),
             (0b1011, 14, 5),
+            (0b1011, 255, 5),
             (0b1010, 14, 4),
             (0b1000, 14, 3),
             (0b0110, 14, 2),
@@ -349,8 +351,6 @@ mod tests {
             (0xA, 0),
             (0x8, 0),
             (0x6, 0),
-            (0xD, 15),
-            (0xB, 255),
             (0x9, 1),
             (0x1F, 0),
             (0xFD, 0),

@@ -22,7 +22,9 @@ pub fn write(out: &mut impl Write) -> io::Result<()> {
     }
     write_pair_counts(out)?;
     writeln!(out)?;
-    write_record_counts(out)
+    write_record_counts(out)?;
+    writeln!(out)?;
+    write_rank_sum(out)
 }
 
 fn write_k1_grid(out: &mut impl Write, n: u8) -> io::Result<()> {
@@ -174,6 +176,17 @@ fn write_record_counts(out: &mut impl Write) -> io::Result<()> {
     Ok(())
 }
 
+fn write_rank_sum(out: &mut impl Write) -> io::Result<()> {
+    let sum: u32 = (0..=u16::MAX)
+        .map(u16::to_be_bytes)
+        .map(|[code, channel]| u32::from(rank(code, channel)))
+        .sum();
+    writeln!(
+        out,
+        "sum of the ranks over all 65536 codes and channels: {sum}"
+    )
+}
+
 #[cfg(test)]
 mod tests {
     use super::*;
@@ -191,7 +204,7 @@ mod tests {
         assert!(text.is_ascii() && text.ends_with('\n') && !text.ends_with("\n\n"));
         assert!(text.lines().all(|line| line.trim_end() == line));
         let grids = 4 * (1 + 1 + 16 + 1);
-        let counts = (1 + 16 + 1) + (1 + 16);
+        let counts = (1 + 16 + 1) + (1 + 16 + 1) + 1;
         assert_eq!(text.lines().count(), grids + counts);
     }
 

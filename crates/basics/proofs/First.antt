@@ -1,10 +1,10 @@
 -- Laws of the first number that applies. Numbers that count on from 1, as the marks do, name the place of the check.
-use mathlib.Core.Path.{_≡_, refl, sym, ap, _∙_}
+use mathlib.Core.Path.{_≡_, refl, sym, _∙_}
 use mathlib.Core.Bool.{Bool, true, false, false≢true, true≢false}
 use mathlib.Core.List.{List, [], _∷_}
 use mathlib.Core.Logic.{_↔_, _⊎_, inl, inr, ⊎-elim}
 use Prim.Native.Nat.{ℕ, zero, suc, _+_, _<_, _≤_, zero-le, suc-le-suc}
-use native.Mathlib.Nat.{add-zero, zero-add, add-suc, suc-add, le-of-suc-le-suc, not-suc-le-zero}
+use native.Mathlib.Nat.{add-zero, add-suc, suc-add, le-of-suc-le-suc, not-suc-le-zero}
 use native.Mathlib.Omega.{arith}
 use Rattle.basics.specs.First.{Check, _when_, firstOf, appliesAt, FirstAt}
 
@@ -30,13 +30,16 @@ skip {m} {i} {rest} f = record { applies = f .applies; none-before = before }
 unskip : {m i : ℕ} {t : Bool} {rest : List Check} → FirstAt ((m when t) ∷ rest) (suc i) → FirstAt rest i
 unskip f = record { applies = f .applies; none-before = λ j h. f .none-before (suc j) (suc-le-suc h) }
 
-first-place : (k : ℕ) (checks : List Check) → CountedFrom k checks → 0 < k → (i : ℕ) → firstOf checks ≡ k + i → FirstAt checks i
+first-place : (k : ℕ) (checks : List Check) → CountedFrom k checks → 0 < k
+    → (i : ℕ) → firstOf checks ≡ k + i → FirstAt checks i
 first-place k [] counted pos i e = absurd (omega arith)
 first-place k ((m when true) ∷ rest) counted pos zero e =
     record { applies = refl; none-before = λ j h. absurd (not-suc-le-zero h) }
 first-place k ((m when true) ∷ rest) counted pos (suc i) e = let c = counted .0 in absurd (omega arith)
 first-place k ((m when false) ∷ rest) counted pos zero e =
-    absurd (⊎-elim (λ (z : firstOf rest ≡ 0). omega arith) (λ (h : suc k ≤ firstOf rest). omega arith) (first-above (suc k) rest (counted .1)))
+    absurd
+    (⊎-elim (λ (z : firstOf rest ≡ 0). omega arith) (λ (h : suc k ≤ firstOf rest). omega arith)
+    (first-above (suc k) rest (counted .1)))
 first-place k ((m when false) ∷ rest) counted pos (suc i) e =
     skip (first-place (suc k) rest (counted .1) (suc-le-suc zero-le) i (e ∙ add-suc k i ∙ sym (suc-add k i)))
 
@@ -50,16 +53,22 @@ first-number k ((m when false) ∷ rest) counted (suc i) f =
 
 -- the number i + 1 is answered exactly where the check at place i applies and none before it does
 pub first-exact : (checks : List Check) → CountedFrom 1 checks → (i : ℕ) → (firstOf checks ≡ i + 1) ↔ FirstAt checks i
-first-exact checks counted i =
-    (λ e. first-place 1 checks counted (suc-le-suc zero-le) i (omega arith), λ f. first-number 1 checks counted i f ∙ omega arith)
+first-exact checks counted i = (
+  λ e. first-place 1 checks counted (suc-le-suc zero-le) i (omega arith),
+  λ f. first-number 1 checks counted i f ∙ omega arith,
+)
 
 -- and 0 exactly where none applies
-pub none-exact : (k : ℕ) (checks : List Check) → CountedFrom (suc k) checks → (firstOf checks ≡ 0) ↔ ((i : ℕ) → appliesAt checks i ≡ false)
+pub none-exact : (k : ℕ) (checks : List Check) → CountedFrom (suc k) checks
+    → (firstOf checks ≡ 0) ↔ ((i : ℕ) → appliesAt checks i ≡ false)
 none-exact k [] counted = (λ e i. refl, λ none. refl)
 none-exact k ((m when true) ∷ rest) counted =
     (λ e. let c = counted .0 in absurd (omega arith), λ none. absurd (true≢false (none 0)))
-none-exact k ((m when false) ∷ rest) counted = (forward (none-exact (suc k) rest (counted .1)), λ none. none-exact (suc k) rest (counted .1) .1 (λ i. none (suc i)))
+none-exact k ((m when false) ∷ rest) counted =
+    let ih = none-exact (suc k) rest (counted .1) in
+    (forward ih, λ none. ih .1 (λ i. none (suc i)))
   where
-    forward : ((firstOf rest ≡ 0) ↔ ((i : ℕ) → appliesAt rest i ≡ false)) → firstOf rest ≡ 0 → (i : ℕ) → appliesAt ((m when false) ∷ rest) i ≡ false
+    forward : ((firstOf rest ≡ 0) ↔ ((i : ℕ) → appliesAt rest i ≡ false))
+        → firstOf rest ≡ 0 → (i : ℕ) → appliesAt ((m when false) ∷ rest) i ≡ false
     forward ih e zero = refl
     forward ih e (suc i) = ih .0 e i

@@ -3,7 +3,7 @@ use mathlib.Core.Path.{_≡_}
 use mathlib.Core.Bool.{Bool, true, false}
 use mathlib.Core.List.{List}
 use mathlib.Core.Logic.{_↔_}
-use Prim.Native.Nat.{ℕ, suc, _+_, _<_}
+use Prim.Native.Nat.{ℕ, _+_, _<_}
 use lib.ListN.{length, getD}
 use lib.Seq.{sets}
 use denote.Ref.{now}
@@ -35,7 +35,8 @@ four-right = four-back
 first-right : (checks : List Check) → CountedFrom 1 checks → (i : ℕ) → (firstOf checks ≡ i + 1) ↔ FirstAt checks i
 first-right = first-exact
 
-first-complete : (checks : List Check) → CountedFrom 1 checks → (firstOf checks ≡ 0) ↔ ((i : ℕ) → appliesAt checks i ≡ false)
+first-complete : (checks : List Check) → CountedFrom 1 checks
+    → (firstOf checks ≡ 0) ↔ ((i : ℕ) → appliesAt checks i ≡ false)
 first-complete = none-exact 0
 
 -- A test that is computed once over a whole list holds at each entry, and a table that computes to the values of a
@@ -52,7 +53,8 @@ answer-unique : {A B : Type 0} {told : A → B} {caseOf : B → A} {right : B} {
     → Answers told caseOf right x → Answers told caseOf right y → x ≡ y
 answer-unique = one-case
 
--- Two answers, or two contents of the lent bytes, that the promise of a public function allows are equal.
+-- Two answers, or two contents of the lent bytes, that the promise of a public function allows are equal. (`Post` is the
+-- function's `ensures`, as the checker reads it off the source.)
 two-at-unique : OneAnswer 1 two-at-kinds.ps two-at-kinds.r two-at.Post
 two-at-unique κs args x y s t p q = one-value p q
 

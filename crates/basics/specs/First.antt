@@ -15,12 +15,7 @@ abbrev pub firstOf : List Check → ℕ
 firstOf [] = 0
 firstOf ((k when t) ∷ rest) = if t then k else firstOf rest
 
--- the number, and the outcome of the test, at place i of the order; past its end 0, and a test that fails
-abbrev pub numberAt : List Check → ℕ → ℕ
-numberAt [] i = 0
-numberAt ((k when t) ∷ rest) zero = k
-numberAt ((k when t) ∷ rest) (suc i) = numberAt rest i
-
+-- the outcome of the test at place i of the order; past its end a test that fails
 abbrev pub appliesAt : List Check → ℕ → Bool
 appliesAt [] i = false
 appliesAt ((k when t) ∷ rest) zero = t

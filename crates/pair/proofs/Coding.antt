@@ -2,14 +2,14 @@
 use mathlib.Core.Path.{_≡_, refl, sym, ap, _∙_}
 use mathlib.Core.Bool.{Bool, true, false, not, _&&_, and-eq-true-iff, false≢true}
 use mathlib.Core.Logic.{_↔_}
-use Prim.Native.Nat.{ℕ, _+_, _*_, _/_, _%_, _≤_, _<_}
+use Prim.Native.Nat.{ℕ, _+_, _*_, _/_, _≤_, _<_}
 use native.Mathlib.Omega.{arith}
 use lib.Dec.{leb, ltb, eqb, lit<}
-use borrow.Author.Tests.{leb-true, ltb-false, eqb-true, eqb-false, eq-eqb, ne-eqb, le-leb, le-ltb, not-false}
+use borrow.Author.Tests.{leb-true, ltb-false, eqb-true, eqb-false, ne-eqb, le-leb, le-ltb, not-false}
 use Rattle.basics.specs.Answer.{Answers}
 use Rattle.basics.proofs.One.{answers}
 use Rattle.basics.proofs.First.{CountedFrom, none-exact}
-use Rattle.pair.specs.Request.{requests, listed, carries}
+use Rattle.pair.specs.Request.{requests, carries}
 use Rattle.pair.specs.Marks.{codeOf, channelOf, bridgedOf, bit5, lineBits, faults, mark}
 use Rattle.pair.specs.Coder.{sectionsFit, decodingTold, decodingCase, decoding}
 use Rattle.pair.specs.Coder.{lineOf, encodingTold, encodingCase, encodable, encoding}
@@ -24,7 +24,8 @@ decoding-whole : (n k1 k2 : ℕ) → decodingTold (decodingCase (decoding n k1 k
 unfolding decoding
 decoding-whole n k1 k2 = go (sectionsFit n) (eqb (mark n k1 k2) 0) refl refl
   where
-    go : (f z : Bool) → sectionsFit n ≡ f → eqb (mark n k1 k2) 0 ≡ z → decodingTold (decodingCase (decoding n k1 k2)) ≡ decoding n k1 k2
+    go : (f z : Bool) → sectionsFit n ≡ f → eqb (mark n k1 k2) 0 ≡ z
+        → decodingTold (decodingCase (decoding n k1 k2)) ≡ decoding n k1 k2
     go true true fits zero = rw (fits, zero)
     go true false fits zero = rw (fits, zero) (rw zero)
     go false z fits zero = rw fits
@@ -123,7 +124,8 @@ mark-none n k1 k2 u =
     let below : ltb n (bridgedOf k2) ≡ false = le-ltb n (bridgedOf k2) (leb-true (bridgedOf k2) n (u .bridged)) in
     rw (bit, line-taken (lineBits k2) (u .line), known, u .carried, below)
 
-pub usable-facts : (n k1 k2 : ℕ) (p : Pair) → decodingCase (decoding n k1 k2) ≡ decoded.Usable p → UsablePair n k1 k2 × (p ≡ pairOf k1 k2)
+pub usable-facts : (n k1 k2 : ℕ) (p : Pair) → decodingCase (decoding n k1 k2) ≡ decoded.Usable p
+    → UsablePair n k1 k2 × (p ≡ pairOf k1 k2)
 unfolding decoding
 usable-facts n k1 k2 p h = go (sectionsFit n) (eqb (mark n k1 k2) 0) refl refl
   where
@@ -216,13 +218,21 @@ record-back n p k1 k2 h =
     rw (← facts .2, ← facts .3) (facts-usable n (firstByte p) (secondByte p) (made .0) ∙ ap decoded.Usable (made .1))
 
 pub encodable-exact : (n : ℕ) (p : Pair) → sectionsFit n ≡ true
-    → (encodable n p ≡ true) ↔ ((k1 : ℕ) × (k2 : ℕ) × (decodingCase (decoding n k1 k2) ≡ decoded.Usable p))
-encodable-exact n p fits = (
-  λ can. (
-    firstByte p,
-    secondByte p,
-    facts-usable n (firstByte p) (secondByte p) (bytes-usable n p fits can .0) ∙ ap decoded.Usable (bytes-usable n p fits can .1),
-  ),
-  λ some. let facts = usable-facts n (some .0) (some .1) p (some .2) in
-      rw (facts .1) (pair-encodable n (some .0) (some .1) (facts .0)),
-)
+    → (encodable n p ≡ true)
+    ↔ ((k1 : ℕ) × (k2 : ℕ) × (k1 < 256) × (k2 < 256) × (decodingCase (decoding n k1 k2) ≡ decoded.Usable p))
+encodable-exact n p fits = (forward, backward)
+  where
+    forward : encodable n p ≡ true
+        → (k1 : ℕ) × (k2 : ℕ) × (k1 < 256) × (k2 < 256) × (decodingCase (decoding n k1 k2) ≡ decoded.Usable p)
+    forward can =
+        let room = four-bits n p fits can in
+        let short = line-below (p .remote) in
+        let made = bytes-usable n p fits can in
+        let back = facts-usable n (firstByte p) (secondByte p) (made .0) ∙ ap decoded.Usable (made .1) in
+        (firstByte p, secondByte p, omega arith, omega arith, back)
+
+    backward : (k1 : ℕ) × (k2 : ℕ) × (k1 < 256) × (k2 < 256) × (decodingCase (decoding n k1 k2) ≡ decoded.Usable p)
+        → encodable n p ≡ true
+    backward some =
+        let facts = usable-facts n (some .0) (some .1) p (some .4) in
+        rw (facts .1) (pair-encodable n (some .0) (some .1) (facts .0))

@@ -1,14 +1,15 @@
 -- A request has the rank of each row that it stands in, and a usable pair's stands in one.
-use mathlib.Core.Path.{_≡_, refl, sym, ap, _∙_}
-use mathlib.Core.Bool.{Bool, true, false, not, _&&_, _||_, and-eq-true-iff, false≢true}
+use mathlib.Core.Path.{_≡_, refl, sym, _∙_}
+use mathlib.Core.Bool.{Bool, true, false, not, _||_, and-eq-true-iff, false≢true}
 use mathlib.Core.List.{List, [], _∷_}
-use Prim.Native.Nat.{ℕ, zero, suc, _≤_, _<_, zero-le, suc-le-suc}
+use Prim.Native.Nat.{ℕ, suc, _≤_, _<_, zero-le, suc-le-suc}
 use native.Mathlib.Omega.{arith}
 use lib.Dec.{eqb, leb, lit<}
 use lib.ListN.{length, getD}
-use borrow.Author.Tests.{eqb-true, eqb-false, leb-true}
+use borrow.Author.Tests.{eqb-true, leb-true}
 use Rattle.basics.proofs.Table.{every, at-entry}
-use Rattle.pair.specs.Request.{Channels, zero-only, sections, zero-and-sections, Row, row, requests, among, stands, carries}
+use Rattle.pair.specs.Request.{Channels, zero-only, sections, zero-and-sections, Row, row, requests}
+use Rattle.pair.specs.Request.{among, stands, carries}
 use Rattle.pair.specs.Request.{Class, channel-0, a-section, classOf, holds, rankIn, rankOf}
 use Rattle.pair.specs.Marks.{codeOf, channelOf}
 use Rattle.pair.specs.Coder.{decodingCase, decoding}

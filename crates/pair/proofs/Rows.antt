@@ -45,7 +45,8 @@ unfolding carries heldIn
 carries-section [] n code c h = refl
 carries-section (r ∷ rest) n code c h =
     rw (among-section (r .channels) n c h)
-    (ap (λ (o : Bool). eqb code (r .code) && (holds (r .channels) a-section && leb c n) || o) (carries-section rest n code c h)
+    (ap (λ (o : Bool). eqb code (r .code) && (holds (r .channels) a-section && leb c n) || o)
+    (carries-section rest n code c h)
     ∙ regroup (eqb code (r .code)) (holds (r .channels) a-section) (heldIn rest a-section code) (leb c n))
 
 or-four : (e z s a b : Bool) → z || s ≡ true → e || (a || b) ≡ (e && z || a) || (e && s || b)
@@ -65,8 +66,8 @@ unfolding listed heldIn
 held-listed [] code = refl
 held-listed (r ∷ rest) code =
     ap (λ (o : Bool). eqb code (r .code) || o) (held-listed rest code)
-    ∙ or-four (eqb code (r .code)) (holds (r .channels) channel-0) (holds (r .channels) a-section) (heldIn rest channel-0 code)
-    (heldIn rest a-section code) (some-class (r .channels))
+    ∙ or-four (eqb code (r .code)) (holds (r .channels) channel-0) (holds (r .channels) a-section)
+    (heldIn rest channel-0 code) (heldIn rest a-section code) (some-class (r .channels))
 
 and-true : (b : Bool) → b && true ≡ b
 and-true true = refl
@@ -126,6 +127,7 @@ unfolding carries listed
 carried-listed [] n code c h = h
 carried-listed (r ∷ rest) n code c h = go (eqb code (r .code)) refl (carried-listed rest n code c)
   where
-    go : (t : Bool) → eqb code (r .code) ≡ t → (carries rest n code c ≡ true → listed rest code ≡ true) → listed (r ∷ rest) code ≡ true
+    go : (t : Bool) → eqb code (r .code) ≡ t → (carries rest n code c ≡ true → listed rest code ≡ true)
+        → listed (r ∷ rest) code ≡ true
     go true e ih = rw e
     go false e ih = rw e (ih (rw e at h))

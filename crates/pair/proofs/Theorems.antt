@@ -34,7 +34,8 @@ record-right = record-back
 
 -- A record is encoded exactly if some usable pair decodes to it; refusal 10 is for all others.
 encodable-right : (n : ℕ) (p : Pair) → sectionsFit n ≡ true
-    → (encodable n p ≡ true) ↔ ((k1 : ℕ) × (k2 : ℕ) × (decodingCase (decoding n k1 k2) ≡ decoded.Usable p))
+    → (encodable n p ≡ true)
+    ↔ ((k1 : ℕ) × (k2 : ℕ) × (k1 < 256) × (k2 < 256) × (decodingCase (decoding n k1 k2) ≡ decoded.Usable p))
 encodable-right = encodable-exact
 
 -- The marks come in the paper's order: a pair has mark i + 1 exactly if the fault at place i is its first, so that a
@@ -59,7 +60,8 @@ rank-right = row-rank
 fail-right : (c : ℕ) → rankOf 0b1110 c < rankOf 0b1101 0
 fail-right = fail-outranks
 
--- Two answers that the promise of a public function allows are equal.
+-- Two answers that the promise of a public function allows are equal. (`Post` is the function's `ensures`, as the checker
+-- reads it off the source.)
 decode-unique : OneAnswer 0 decode-kinds.ps decode-kinds.r decode.Post
 decode-unique κs args x y s t p q = one-case p q
 

@@ -1,5 +1,5 @@
 -- Decoding and encoding: the numbers that the paper has for each answer, and the case of the enum that holds them.
-use mathlib.Core.Bool.{Bool, true, false, _&&_}
+use mathlib.Core.Bool.{Bool, false, _&&_}
 use Prim.Native.Nat.{ℕ, _+_, _*_}
 use lib.Dec.{leb, eqb}
 use Rattle.basics.specs.Choice.{if_then_else_}

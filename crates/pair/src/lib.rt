@@ -17,12 +17,14 @@ pub struct Pair {
     pub remote: bool,
 }
 
+// What a pair decodes to: the record of a usable pair, the mark of an unusable one, or a refusal.
 pub enum Decoded {
     Usable(Pair),
     Marked(u8),
     Refused(u8),
 }
 
+// What a record is encoded to: K1 and K2, or a refusal.
 pub enum Encoded {
     Bytes(u8, u8),
     Refused(u8),

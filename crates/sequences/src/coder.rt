@@ -209,12 +209,34 @@ fn put_records(page: &mut [u8], at: usize) -> usize {
         end = put_counts(page, end, n, &counts);
         n += 1;
     }
-    end
+    put(page, end, b'\n')
+}
+
+fn sum_ranks(sums: &mut [u32]) {
+    let mut i: u32 = 0;
+    while i < 65536 {
+        let r = rank((i / 256 % 256) as u8, (i % 256) as u8);
+        add(sums, 0, r as u32);
+        i += 1;
+    }
+}
+
+fn put_rank_sum(page: &mut [u8], at: usize) -> usize {
+    let mut sums = [0u32; 1];
+    sum_ranks(&mut sums);
+    let end = put_text(
+        page,
+        at,
+        b"sum of the ranks over all 65536 codes and channels: ",
+    );
+    let end = put_number(page, end, wide(sums[0]));
+    put(page, end, b'\n')
 }
 
 pub(crate) fn put_tables(page: &mut [u8], at: usize) -> usize {
     let end = put_grids(page, at, 2);
     let end = put_grids(page, end, 14);
     let end = put_pairs(page, end);
-    put_records(page, end)
+    let end = put_records(page, end);
+    put_rank_sum(page, end)
 }

@@ -17,14 +17,24 @@ unfolding decoding
 returns c =
     let a = c .before .before .before .before .args in
     decoded-by (a .n) (a .k1) (a .k2)
-    (simp (← c .before .mark-of .ensures, c .before .before .if1 .taken, ← c .before .before .before .sections-fit .ensures) (search tests))
+    (simp (
+      ← c .before .mark-of .ensures,
+      c .before .before .if1 .taken,
+      ← c .before .before .before .sections-fit .ensures,
+    )
+    (search tests))
 
 returns-2 : tie.Need-returns-2
 unfolding decoding
 returns-2 c =
     let a = c .before .before .before .before .args in
     decoded-by (a .n) (a .k1) (a .k2)
-    (simp (← c .before .mark-of .ensures, c .before .before .if1 .taken, ← c .before .before .before .sections-fit .ensures) (search tests))
+    (simp (
+      ← c .before .mark-of .ensures,
+      c .before .before .if1 .taken,
+      ← c .before .before .before .sections-fit .ensures,
+    )
+    (search tests))
 
 returns-3 : tie.Need-returns-3
 unfolding decoding

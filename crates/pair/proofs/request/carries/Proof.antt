@@ -53,7 +53,9 @@ returns-2 c =
     (above (heldIn requests channel-0 (a .code)) (heldIn requests a-section (a .code))))
 
 returns-3 : tie.Need-returns-3
-returns-3 c = sym (beyond-carries 16 (c .before .args .code) (c .if1 .left) requests (c .before .args .n) (c .before .args .channel) refl)
+returns-3 c =
+    let a = c .before .args in
+    sym (beyond-carries 16 (a .code) (c .if1 .left) requests (a .n) (a .channel) refl)
 
 pub carries-spec : {M : Type 1} → statement M
 carries-spec = tie.close (tie.spec array-read-channels returns returns-2 returns-3)

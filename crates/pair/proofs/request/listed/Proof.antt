@@ -13,7 +13,9 @@ carries-requires-2 : tie.Need-carries-requires-2
 carries-requires-2 c κs = search needs
 
 returns : tie.Need-returns
-returns c = rw (c .carries2 .ensures, c .before .carries .ensures) (sym (listed-carries requests (c .before .before .args .code)))
+returns c =
+    rw (c .carries2 .ensures, c .before .carries .ensures)
+    (sym (listed-carries requests (c .before .before .args .code)))
 
 pub listed-spec : {M : Type 1} → statement M
 listed-spec = tie.close (tie.spec carries-requires carries-requires-2 returns)
