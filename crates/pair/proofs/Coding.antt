@@ -6,6 +6,7 @@ use Prim.Native.Nat.{ℕ, _+_, _*_, _/_, _≤_, _<_}
 use native.Mathlib.Omega.{arith}
 use lib.Dec.{leb, ltb, eqb, lit<}
 use borrow.Author.Tests.{leb-true, ltb-false, eqb-true, eqb-false, ne-eqb, le-leb, le-ltb, not-false}
+use Rattle.basics.specs.Choice.{if_then_else_}
 use Rattle.basics.specs.Answer.{Answers}
 use Rattle.basics.proofs.One.{answers}
 use Rattle.basics.proofs.First.{CountedFrom, none-exact}
@@ -73,6 +74,16 @@ four-bits n p fits h =
 abbrev pub pairOf : ℕ → ℕ → Pair
 pairOf k1 k2 =
     record { code = codeOf k1; channel = channelOf k1; bridged = bridgedOf k2; remote = eqb (lineBits k2) 0b110 }
+
+pub fit-decoding : (n k1 k2 : ℕ) {m : ℕ} → sectionsFit n ≡ true → m ≡ mark n k1 k2
+    → decodingCase (decoding n k1 k2) ≡ (if eqb m 0 then decoded.Usable (pairOf k1 k2) else decoded.Marked m)
+unfolding decoding
+fit-decoding n k1 k2 {m} fits e = go (eqb m 0) refl
+  where
+    go : (z : Bool) → eqb m 0 ≡ z
+        → decodingCase (decoding n k1 k2) ≡ (if eqb m 0 then decoded.Usable (pairOf k1 k2) else decoded.Marked m)
+    go true z = simp (fits, ← e, z)
+    go false z = simp (fits, ← e, z)
 
 -- what the five checks leave of a usable pair
 pub record UsablePair (n k1 k2 : ℕ) : Type 0 where
