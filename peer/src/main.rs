@@ -5,6 +5,10 @@
 //! misreading agree with each other and prove nothing. Every landing that
 //! changes this package keeps it that way.
 //!
+//! One reading was not reached so: that of `pair::rank` for a channel that no
+//! group has, where the paper is silent. It was settled for both, and their
+//! agreement there is no evidence.
+//!
 //! The two are compared by what they print. Where they differ, neither has
 //! precedence: the paper decides which one is wrong.
 
