@@ -1,0 +1,3 @@
+-- Laws for the crates above; Theorems is the front door.
+pub mod Order
+mod Theorems

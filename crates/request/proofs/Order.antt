@@ -1,0 +1,171 @@
+-- Laws of 'better' and of 'best'. Those of 'best' hold for every order that is irreflexive and transitive.
+use mathlib.Core.Path.{_≡_, refl, sym, _∙_}
+use mathlib.Core.Bool.{Bool, true, false, _&&_, _||_, and-eq-true-iff, true≢false, false≢true}
+use mathlib.Core.List.{List, [], _∷_, _++_}
+use mathlib.Core.Logic.{_⊎_, inl, inr, ⊎-elim}
+use mathlib.Mathlib.Data.Bool.Basic.{eq-false-of-not-eq-true}
+use Prim.Native.Nat.{ℕ, _<_}
+use native.Mathlib.Omega.{arith}
+use lib.Dec.{ltb, eqb}
+use borrow.Author.Tests.{ltb-true, ltb-false, eqb-true, lt-ltb, eq-eqb}
+use Rattle.basics.specs.Choice.{if_then_else_}
+use Rattle.request.specs.Order.{mayWin, better, byRank, betterOf, best}
+use Rattle.request.specs.declared.Request.{Request}
+
+-- what the test 'better' says
+abbrev Beats : ℕ → ℕ → ℕ → ℕ → Type 0
+Beats r c s d = (0 < r) × ((s < r) ⊎ ((r ≡ s) × (c < d)))
+
+or-true : (a b : Bool) → a || b ≡ true → (a ≡ true) ⊎ (b ≡ true)
+or-true true b h = inl refl
+or-true false b h = inr h
+
+beats : (r c s d : ℕ) → better r c s d ≡ true → Beats r c s d
+beats r c s d h =
+    let both = and-eq-true-iff (mayWin r) (ltb s r || eqb r s && ltb c d) .0 h in
+    (
+      ltb-true 0 r (both .0),
+      ⊎-elim (λ e. inl (ltb-true s r e))
+      (λ e.
+      let tie = and-eq-true-iff (eqb r s) (ltb c d) .0 e in
+      inr (eqb-true r s (tie .0), ltb-true c d (tie .1)))
+      (or-true (ltb s r) (eqb r s && ltb c d) (both .1)),
+    )
+
+or-right : (a b : Bool) → b ≡ true → a || b ≡ true
+or-right true b h = refl
+or-right false b h = h
+
+beaten : (r c s d : ℕ) → Beats r c s d → better r c s d ≡ true
+beaten r c s d (wins, inl h) = rw (lt-ltb 0 r wins, lt-ltb s r h)
+beaten r c s d (wins, inr (e, h)) =
+    rw (lt-ltb 0 r wins, eq-eqb r s e, lt-ltb c d h) (or-right (ltb s r) true refl)
+
+pub better-irreflexive : (r c : ℕ) → better r c r c ≡ false
+better-irreflexive r c = eq-false-of-not-eq-true (λ h. no (beats r c r c h))
+  where
+    no : Beats r c r c → ⊥
+    no (wins, inl h) = omega arith
+    no (wins, inr (e, h)) = omega arith
+
+pub better-transitive : (r c s d t e : ℕ) → better r c s d ≡ true → better s d t e ≡ true → better r c t e ≡ true
+better-transitive r c s d t e h k = beaten r c t e (join (beats r c s d h) (beats s d t e k))
+  where
+    join : Beats r c s d → Beats s d t e → Beats r c t e
+    join (wins, inl a) (wins′, inl b) = (wins, inl (omega arith))
+    join (wins, inl a) (wins′, inr (q, b)) = (wins, inl (omega arith))
+    join (wins, inr (p, a)) (wins′, inl b) = (wins, inl (omega arith))
+    join (wins, inr (p, a)) (wins′, inr (q, b)) = (wins, inr (omega arith, omega arith))
+
+-- of two requests above rank 0 that differ in rank or channel one is better
+pub better-total : (r c s d : ℕ) → 0 < r → 0 < s → ((r ≡ s) × (c ≡ d) → ⊥)
+    → (better r c s d ≡ true) ⊎ (better s d r c ≡ true)
+better-total r c s d h k differ = go (ltb s r) (ltb r s) (ltb c d) refl refl refl
+  where
+    go : (above below lower : Bool) → ltb s r ≡ above → ltb r s ≡ below → ltb c d ≡ lower
+        → (better r c s d ≡ true) ⊎ (better s d r c ≡ true)
+    go true below lower e f g = inl (beaten r c s d (h, inl (ltb-true s r e)))
+    go false true lower e f g = inr (beaten s d r c (k, inl (ltb-true r s f)))
+    go false false true e f g =
+        let p = ltb-false s r e in
+        let q = ltb-false r s f in
+        inl (beaten r c s d (h, inr (omega arith, ltb-true c d g)))
+    go false false false e f g =
+        let p = ltb-false s r e in
+        let q = ltb-false r s f in
+        let same : r ≡ s = omega arith in
+        let l = ltb-false c d g in
+        let apart : c ≡ d → ⊥ = λ m. differ (same, m) in
+        inr (beaten s d r c (k, inr (omega arith, omega arith)))
+
+-- RR and NR, of rank 0, never win
+pub never-wins : (c s d : ℕ) → better 0 c s d ≡ false
+never-wins c s d = refl
+
+-- x is one of some candidates
+abbrev pub OneOf : Request → List Request → Type 0
+OneOf x [] = ⊥
+OneOf x (y ∷ rest) = (x ≡ y) ⊎ OneOf x rest
+
+module _ (order : Request → Request → Bool) where
+  pub best-append : (xs ys : List Request) (none : Request)
+      → best order none (xs ++ ys) ≡ best order (best order none xs) ys
+  unfolding best
+  best-append [] ys none = refl
+  best-append (x ∷ xs) ys none = best-append xs ys (betterOf order x none)
+
+  -- the best is one of the candidates, or what stands if there is none
+  pub best-one : (xs : List Request) (none : Request)
+      → (best order none xs ≡ none) ⊎ OneOf (best order none xs) xs
+  unfolding best
+  best-one [] none = inl refl
+  best-one (x ∷ xs) none = go (order x none) refl (best-one xs x) (best-one xs none)
+    where
+      go : (t : Bool) → order x none ≡ t
+          → (best order x xs ≡ x) ⊎ OneOf (best order x xs) xs
+          → (best order none xs ≡ none) ⊎ OneOf (best order none xs) xs
+          → (best order none (x ∷ xs) ≡ none) ⊎ OneOf (best order none (x ∷ xs)) (x ∷ xs)
+      go true e first rest = rw e (inr first)
+      go false e first (inl same) = rw e (inl same)
+      go false e first (inr among) = rw e (inr (inr among))
+
+  module _ (irreflexive : (x : Request) → order x x ≡ false)
+      (transitive : (x y z : Request) → order x y ≡ true → order y z ≡ true → order x z ≡ true) where
+    -- what does not beat z does not beat what beats z
+    not-above : (y x z : Request) → order y z ≡ false → order x z ≡ true → order y x ≡ false
+    not-above y x z h k = eq-false-of-not-eq-true (λ t. true≢false (sym (transitive y x z t k) ∙ h))
+
+    -- no candidate is better than the best, nor is what was not better than that which stands if there is none
+    pub best-above : (xs : List Request) (none y : Request) → (order y none ≡ false) ⊎ OneOf y xs
+        → order y (best order none xs) ≡ false
+    unfolding best
+    best-above [] none y (inl h) = h
+    best-above [] none y (inr h) = absurd h
+    best-above (x ∷ xs) none y h = best-above xs (betterOf order x none) y (go (order x none) refl h)
+      where
+        go : (t : Bool) → order x none ≡ t → (order y none ≡ false) ⊎ OneOf y (x ∷ xs)
+            → (order y (betterOf order x none) ≡ false) ⊎ OneOf y xs
+        go true e (inl k) = rw e (inl (not-above y x none k e))
+        go false e (inl k) = rw e (inl k)
+        go true e (inr (inl same)) = rw (e, same) (inl (irreflexive x))
+        go false e (inr (inl same)) = rw (e, same) (inl e)
+        go t e (inr (inr among)) = inr among
+
+    module _ (none x : Request) (above : order x none ≡ true) where
+      abbrev Alone : List Request → Type 0
+      Alone xs = (y : Request) → OneOf y xs → (y ≡ x) ⊎ (order y none ≡ false)
+
+      beside : (y : Request) → (y ≡ x) ⊎ (order y none ≡ false) → order y x ≡ false
+      beside y (inl same) = rw same (irreflexive x)
+      beside y (inr k) = not-above y x none k above
+
+      best-stays : (xs : List Request) → Alone xs → best order x xs ≡ x
+      unfolding best
+      best-stays [] alone = refl
+      best-stays (y ∷ xs) alone =
+          rw (beside y (alone y (inl refl))) (best-stays xs (λ z among. alone z (inr among)))
+
+      -- a single candidate is the best, whatever stands beside it that cannot win
+      pub best-single : (xs : List Request) → Alone xs → OneOf x xs → best order none xs ≡ x
+      unfolding best
+      best-single [] alone among = absurd among
+      best-single (y ∷ xs) alone (inl same) = rw (← same, above) (best-stays xs (λ z among. alone z (inr among)))
+      best-single (y ∷ xs) alone (inr among) =
+          go (order y none) refl (alone y (inl refl)) (best-single xs (λ z one. alone z (inr one)) among)
+        where
+          go : (t : Bool) → order y none ≡ t → (y ≡ x) ⊎ (order y none ≡ false) → best order none xs ≡ x
+              → best order none (y ∷ xs) ≡ x
+          go true e (inl same) ih = rw (e, same) (best-stays xs (λ z one. alone z (inr one)))
+          go true e (inr k) ih = absurd (true≢false (sym e ∙ k))
+          go false e same ih = rw e ih
+
+-- the order that a table of ranks gives is one of them
+module _ (rankOf : ℕ → ℕ → ℕ) where
+  pub rank-irreflexive : (x : Request) → byRank rankOf x x ≡ false
+  rank-irreflexive x = better-irreflexive (rankOf (x .code) (x .channel)) (x .channel)
+
+  pub rank-transitive : (x y z : Request)
+      → byRank rankOf x y ≡ true → byRank rankOf y z ≡ true → byRank rankOf x z ≡ true
+  rank-transitive x y z =
+      better-transitive (rankOf (x .code) (x .channel)) (x .channel) (rankOf (y .code) (y .channel)) (y .channel)
+      (rankOf (z .code) (z .channel)) (z .channel)

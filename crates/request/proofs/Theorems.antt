@@ -1,0 +1,76 @@
+-- The front door: what is proved of the decision on ranks and channels, each theorem in full with the line that cites
+-- its proof. `rankOf` is any table of ranks.
+use mathlib.Core.Path.{_≡_}
+use mathlib.Core.Bool.{true, false}
+use mathlib.Core.List.{List}
+use mathlib.Core.Logic.{_⊎_, inr}
+use Prim.Native.Nat.{ℕ, _<_}
+use Rattle.basics.proofs.One.{OneAnswer, one-value}
+use Rattle.request.specs.Order.{better, byRank, best}
+use Rattle.request.specs.declared.Request.{Request}
+use Rattle.request.proofs.Order.{better-irreflexive, better-transitive, better-total, never-wins, OneOf}
+use Rattle.request.proofs.Order.{best-one, best-above, best-single, rank-irreflexive, rank-transitive}
+use Rattle.request.proofs.better.Kinds as better-kinds
+use Rattle.request.proofs.better.Reads as better-fn
+use Rattle.request.proofs.replaces.Kinds as replaces-kinds
+use Rattle.request.proofs.replaces.Reads as replaces
+use Rattle.request.proofs.fate.Kinds as fate-kinds
+use Rattle.request.proofs.fate.Reads as fate
+use Rattle.request.proofs.wait_now.Kinds as wait-now-kinds
+use Rattle.request.proofs.wait_now.Reads as wait-now
+use Rattle.request.proofs.bridge.Kinds as bridge-kinds
+use Rattle.request.proofs.bridge.Reads as bridge
+use Rattle.request.proofs.selector.Kinds as selector-kinds
+use Rattle.request.proofs.selector.Reads as selector
+
+-- Better is irreflexive and transitive; of two requests above rank 0 that differ in rank or channel one is better; and
+-- RR and NR, of rank 0, never win.
+irreflexive : (r c : ℕ) → better r c r c ≡ false
+irreflexive = better-irreflexive
+
+transitive : (r c s d t e : ℕ) → better r c s d ≡ true → better s d t e ≡ true → better r c t e ≡ true
+transitive = better-transitive
+
+total : (r c s d : ℕ) → 0 < r → 0 < s → ((r ≡ s) × (c ≡ d) → ⊥) → (better r c s d ≡ true) ⊎ (better s d r c ≡ true)
+total = better-total
+
+rank-0-right : (c s d : ℕ) → better 0 c s d ≡ false
+rank-0-right = never-wins
+
+-- The best of some candidates is one of them, or what stands if there is none.
+best-right : (rankOf : ℕ → ℕ → ℕ) (candidates : List Request) (none : Request) →
+    let found = best (byRank rankOf) none candidates in (found ≡ none) ⊎ OneOf found candidates
+best-right rankOf = best-one (byRank rankOf)
+
+-- No candidate is better than the best.
+best-complete : (rankOf : ℕ → ℕ → ℕ) (candidates : List Request) (none x : Request) → OneOf x candidates
+    → byRank rankOf x (best (byRank rankOf) none candidates) ≡ false
+best-complete rankOf candidates none x among =
+    best-above (byRank rankOf) (rank-irreflexive rankOf) (rank-transitive rankOf) candidates none x (inr among)
+
+-- A single candidate is the best, whatever stands beside it that cannot win.
+single-right : (rankOf : ℕ → ℕ → ℕ) (none x : Request) → byRank rankOf x none ≡ true
+    → (candidates : List Request)
+    → ((y : Request) → OneOf y candidates → (y ≡ x) ⊎ (byRank rankOf y none ≡ false))
+    → OneOf x candidates → best (byRank rankOf) none candidates ≡ x
+single-right rankOf = best-single (byRank rankOf) (rank-irreflexive rankOf) (rank-transitive rankOf)
+
+-- Two answers that the promise of a public function allows are equal. (`Post` is the function's `ensures`, as the checker
+-- reads it off the source.)
+better-unique : OneAnswer 0 better-kinds.ps better-kinds.r better-fn.Post
+better-unique κs args x y s t p q = one-value p q
+
+replaces-unique : OneAnswer 0 replaces-kinds.ps replaces-kinds.r replaces.Post
+replaces-unique κs args x y s t p q = one-value p q
+
+fate-unique : OneAnswer 0 fate-kinds.ps fate-kinds.r fate.Post
+fate-unique κs args x y s t p q = one-value p q
+
+wait-now-unique : OneAnswer 0 wait-now-kinds.ps wait-now-kinds.r wait-now.Post
+wait-now-unique κs args x y s t p q = one-value p q
+
+bridge-unique : OneAnswer 0 bridge-kinds.ps bridge-kinds.r bridge.Post
+bridge-unique κs args x y s t p q = one-value p q
+
+selector-unique : OneAnswer 0 selector-kinds.ps selector-kinds.r selector.Post
+selector-unique κs args x y s t p q = one-value p q

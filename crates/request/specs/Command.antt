@@ -1,0 +1,17 @@
+-- What becomes of a command (01, 'One step', rules 2 and 5). A command has a rank above 0; 0 is the rank of none.
+use mathlib.Core.Bool.{Bool, _&&_, _||_}
+use Prim.Native.Nat.{ℕ}
+use lib.Dec.{ltb, eqb}
+use Rattle.basics.specs.Choice.{if_then_else_}
+
+-- a new command replaces the held one only if none is held or its rank is higher
+abbrev pub replaces : ℕ → ℕ → Bool
+replaces held given = eqb held 0 || ltb held given
+
+-- 0 none given, 1 taken, 2 denied; clear is always taken, a new command if it replaced the held one and is sent
+abbrev pub fate : ℕ → Bool → Bool → ℕ
+fate command replaced sent =
+    if eqb command 0 then 0
+    else if eqb command 1 then 1
+    else if replaced && sent then 1
+    else 2
