@@ -85,6 +85,14 @@ fit-decoding n k1 k2 {m} fits e = go (eqb m 0) refl
     go true z = simp (fits, ← e, z)
     go false z = simp (fits, ← e, z)
 
+pub fit-mark : (n k1 k2 : ℕ) → sectionsFit n ≡ true → decoding n k1 k2 .mark ≡ mark n k1 k2
+unfolding decoding
+fit-mark n k1 k2 fits = go (eqb (mark n k1 k2) 0) refl
+  where
+    go : (z : Bool) → eqb (mark n k1 k2) 0 ≡ z → decoding n k1 k2 .mark ≡ mark n k1 k2
+    go true z = rw (fits, z) (sym (eqb-true (mark n k1 k2) 0 z))
+    go false z = rw (fits, z)
+
 -- what the five checks leave of a usable pair
 pub record UsablePair (n k1 k2 : ℕ) : Type 0 where
   pub fits : sectionsFit n ≡ true
@@ -104,7 +112,7 @@ line-given l h = go (eqb l 0b000) (eqb l 0b110) refl refl
 pub faults-counted : (n k1 k2 : ℕ) → CountedFrom 1 (faults n k1 k2)
 faults-counted n k1 k2 = (refl, (refl, (refl, (refl, (refl, tt)))))
 
-unmarked : (n k1 k2 : ℕ) → sectionsFit n ≡ true → mark n k1 k2 ≡ 0 → UsablePair n k1 k2
+pub unmarked : (n k1 k2 : ℕ) → sectionsFit n ≡ true → mark n k1 k2 ≡ 0 → UsablePair n k1 k2
 unfolding mark
 unmarked n k1 k2 fits h =
     let none = none-exact 0 (faults n k1 k2) (faults-counted n k1 k2) .0 h in
@@ -126,7 +134,7 @@ line-taken l h = go (eqb l 0b000) (eqb l 0b110) refl refl
     go false true ea eb = rw (ea, eb)
     go false false ea eb = absurd (eqb-false l 0b000 ea (sym (rw eb at h)))
 
-mark-none : (n k1 k2 : ℕ) → UsablePair n k1 k2 → mark n k1 k2 ≡ 0
+pub mark-none : (n k1 k2 : ℕ) → UsablePair n k1 k2 → mark n k1 k2 ≡ 0
 unfolding mark
 mark-none n k1 k2 u =
     let one = u .one in

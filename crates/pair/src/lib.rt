@@ -30,7 +30,7 @@ pub enum Encoded {
     Refused(u8),
 }
 
-fn sections_fit(n: u8) -> bool
+pub fn sections_fit(n: u8) -> bool
     ensures { λ r. ⌜ r ≡ sectionsFit n ⌝ }
 {
     (1 <= n) & (n <= 14)

@@ -1,3 +1,4 @@
 -- Laws for the crates above; Theorems is the front door.
 pub mod Order
+pub mod Channels
 mod Theorems

@@ -22,14 +22,13 @@ or-true false b h = inr h
 
 beats : (r c s d : ℕ) → better r c s d ≡ true → Beats r c s d
 beats r c s d h =
-    let both = and-eq-true-iff (mayWin r) (ltb s r || eqb r s && ltb c d) .0 h in
-    (
+    let both = and-eq-true-iff (mayWin r) (ltb s r || eqb r s && ltb c d) .0 h in (
       ltb-true 0 r (both .0),
       ⊎-elim (λ e. inl (ltb-true s r e))
-      (λ e.
-      let tie = and-eq-true-iff (eqb r s) (ltb c d) .0 e in
-      inr (eqb-true r s (tie .0), ltb-true c d (tie .1)))
-      (or-true (ltb s r) (eqb r s && ltb c d) (both .1)),
+          (λ e.
+          let tie = and-eq-true-iff (eqb r s) (ltb c d) .0 e in
+          inr (eqb-true r s (tie .0), ltb-true c d (tie .1)))
+          (or-true (ltb s r) (eqb r s && ltb c d) (both .1)),
     )
 
 or-right : (a b : Bool) → b ≡ true → a || b ≡ true
@@ -87,6 +86,14 @@ abbrev pub OneOf : Request → List Request → Type 0
 OneOf x [] = ⊥
 OneOf x (y ∷ rest) = (x ≡ y) ⊎ OneOf x rest
 
+abbrev pub Each : (Request → Type 0) → List Request → Type 0
+Each P [] = Unit {0}
+Each P (x ∷ rest) = P x × Each P rest
+
+pub each-append : (P : Request → Type 0) (xs ys : List Request) → Each P xs → Each P ys → Each P (xs ++ ys)
+each-append P [] ys h k = k
+each-append P (x ∷ xs) ys h k = (h .0, each-append P xs ys (h .1) k)
+
 module _ (order : Request → Request → Bool) where
   pub best-append : (xs ys : List Request) (none : Request)
       → best order none (xs ++ ys) ≡ best order (best order none xs) ys
@@ -108,6 +115,17 @@ module _ (order : Request → Request → Bool) where
       go true e first rest = rw e (inr first)
       go false e first (inl same) = rw e (inl same)
       go false e first (inr among) = rw e (inr (inr among))
+
+  -- what holds of each candidate, and of what stands if there is none, holds of the best
+  pub best-has : (P : Request → Type 0) (xs : List Request) (none : Request) → P none → Each P xs
+      → P (best order none xs)
+  unfolding best
+  best-has P [] none h each = h
+  best-has P (x ∷ xs) none h each = best-has P xs (betterOf order x none) (go (order x none) refl) (each .1)
+    where
+      go : (t : Bool) → order x none ≡ t → P (betterOf order x none)
+      go true e = rw e (each .0)
+      go false e = rw e h
 
   module _ (irreflexive : (x : Request) → order x x ≡ false)
       (transitive : (x y z : Request) → order x y ≡ true → order y z ≡ true → order x z ≡ true) where

@@ -20,6 +20,7 @@ returns-3 c =
       c .before .before .if2 .left,
       c .before .before .before .if1 .left,
     )
+
 returns-4 : tie.Need-returns-4
 returns-4 c = search needs
 

@@ -1,0 +1,9 @@
+-- Laws for the crates above; Theorems is the front door.
+pub mod Candidates
+pub mod Usability
+pub mod Conditions
+pub mod Inputs
+pub mod Sendable
+pub mod Sending
+pub mod Making
+mod Trial

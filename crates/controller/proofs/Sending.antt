@@ -1,0 +1,192 @@
+-- What a step that is not refused accepts and sends: the accepted pair is usable, and the request that is sent may be sent.
+use mathlib.Core.Path.{_≡_, refl, sym, ap, _∙_}
+use mathlib.Core.Bool.{Bool, true, false, not, _&&_, and-eq-true-iff, false≢true, true≢false}
+use mathlib.Core.List.{List, [], _∷_, _++_}
+use Prim.Native.Nat.{ℕ, suc, _+_, _-_, _≤_, _<_}
+use native.Mathlib.Omega.{arith}
+use lib.Dec.{ltb, leb, eqb}
+use lib.ListN.{length, drop}
+use borrow.Author.Tests.{ltb-true, leb-true, eqb-true, eqb-false, lt-leb}
+use Rattle.basics.specs.Choice.{if_then_else_}
+use Rattle.pair.specs.Request.{requests, carries, rankOf}
+use Rattle.pair.specs.Marks.{codeOf, channelOf, bridgedOf, mark}
+use Rattle.pair.proofs.Rows.{heldIn, carries-0, carried-within}
+use Rattle.pair.proofs.Coding.{unmarked}
+use Rattle.request.specs.Wait.{waitNow}
+use Rattle.request.specs.Order.{byRank, best}
+use Rattle.request.specs.declared.Request.{Request}
+use Rattle.request.proofs.Order.{Each, each-append, best-has}
+use Rattle.controller.specs.Settings.{idleK1, idleK2}
+use Rattle.controller.specs.Rules.{request, noRequest, asked, accepted, accepting, isCommand, held, isClear, kept, given}
+use Rattle.controller.specs.Rules.{taken, standing, candidates, conditionsFrom, isFailOrDegrade, isWait, entersWait, waiting, localRequest, decided}
+use Rattle.controller.specs.Refusals.{waitFits, acceptable, channelFits}
+use Rattle.controller.specs.Step.{protection, waitOf, commandOf, localOf}
+use Rattle.controller.specs.declared.Controller.{Controller}
+use Rattle.controller.specs.declared.Accepted.{Accepted}
+use Rattle.controller.proofs.Usability.{idle-usable}
+use Rattle.controller.proofs.Inputs.{WellFormed, Acceptable, acceptable-facts}
+use Rattle.controller.proofs.Sendable.{Sendable, none-sendable, lockout-sendable, forced-sendable, manual-sendable}
+use Rattle.controller.proofs.Sendable.{wait-sendable, reverse-sendable, conditions-sendable}
+
+-- the pair that a step has accepted, taken apart
+pub record Usable (n : ℕ) (far : Accepted) : Type 0 where
+  pub usable : mark n (far .k1) (far .k2) ≡ 0
+  pub parts : far ≡ accepted (far .k1) (far .k2) (far .mark)
+
+module _ (s : Controller) (conditions : List ℕ) (command c : ℕ) (given-well : WellFormed s conditions command c) where
+  well : Acceptable s
+  well = acceptable-facts s (given-well .accepts)
+
+  pub far-usable : (failed : Bool) (k1 k2 : ℕ) → Usable (s .n) (accepting s failed k1 k2)
+  unfolding accepting carries
+  far-usable true k1 k2 =
+      record {
+        usable = eqb-true (mark (s .n) idleK1 idleK2) 0 (idle-usable (s .n) idleK1 (given-well .fits));
+        parts = refl;
+      }
+  far-usable false k1 k2 = go (eqb (mark (s .n) k1 k2) 0) refl
+    where
+      go : (z : Bool) → eqb (mark (s .n) k1 k2) 0 ≡ z → Usable (s .n) (accepting s false k1 k2)
+      go true e = rw e record { usable = eqb-true (mark (s .n) k1 k2) 0 e; parts = refl }
+      go false e = rw e record { usable = well .usable; parts = refl }
+
+  -- channels of a usable pair
+  pub far-channel : (failed : Bool) (k1 k2 : ℕ) → accepting s failed k1 k2 .request .channel ≤ s .n
+  far-channel failed k1 k2 =
+      let far = accepting s failed k1 k2 in
+      let u = far-usable failed k1 k2 in
+      let p = unmarked (s .n) (far .k1) (far .k2) (given-well .fits) (u .usable) in
+      let e : far .request .channel ≡ channelOf (far .k1) = ap (λ (a : Accepted). a .request .channel) (u .parts) in
+      rw e (carried-within requests (s .n) (codeOf (far .k1)) (channelOf (far .k1)) (p .carried))
+
+  module _ (now : ℕ) where
+    held-sendable : Sendable (s .n) (s .mask) now (held (asked (s .sent)))
+    held-sendable = go (isCommand (codeOf (s .sent))) refl
+      where
+        go : (t : Bool) → isCommand (codeOf (s .sent)) ≡ t → Sendable (s .n) (s .mask) now (held (asked (s .sent)))
+        go true e =
+            rw e
+            record {
+              carried = well .carried;
+              coded = well .coded;
+              waits = λ h.
+                  let six : codeOf (s .sent) ≡ 0b0110 = eqb-true (codeOf (s .sent)) 0b0110 h in
+                  absurd (false≢true (rw six at e));
+            }
+        go false e = rw e (none-sendable (s .n) (s .mask) now)
+
+    given-sendable : Sendable (s .n) (s .mask) now (given command c)
+    given-sendable = go (eqb command 2) (eqb command 3) (eqb command 4) refl refl refl
+      where
+        on-section : 2 < command → (1 ≤ c) × (c ≤ s .n)
+        on-section h =
+            let fits : leb 1 c && leb c (s .n) ≡ true = rw (lt-leb command 2 h) at (given-well .channel-fits) in
+            let both = and-eq-true-iff (leb 1 c) (leb c (s .n)) .0 fits in
+            (leb-true 1 c (both .0), leb-true c (s .n) (both .1))
+
+        go : (lo fs ms : Bool) → eqb command 2 ≡ lo → eqb command 3 ≡ fs → eqb command 4 ≡ ms
+            → Sendable (s .n) (s .mask) now (given command c)
+        go true fs ms e f g = rw e (lockout-sendable (s .n) (s .mask) now)
+        go false true ms e f g =
+            let three = eqb-true command 3 f in
+            let b = on-section (omega arith) in
+            rw (e, f) (forced-sendable (s .n) (s .mask) now c (b .0) (b .1))
+        go false false true e f g =
+            let four = eqb-true command 4 g in
+            let b = on-section (omega arith) in
+            rw (e, f, g) (manual-sendable (s .n) (s .mask) now c (b .0) (b .1))
+        go false false false e f g = rw (e, f, g) (none-sendable (s .n) (s .mask) now)
+
+    command-sendable : Sendable (s .n) (s .mask) now (commandOf (held (asked (s .sent))) command c)
+    command-sendable = go (taken (kept command (held (asked (s .sent)))) (given command c)) (isClear command) refl refl
+      where
+        go : (t clear : Bool) → taken (kept command (held (asked (s .sent)))) (given command c) ≡ t → isClear command ≡ clear
+            → Sendable (s .n) (s .mask) now (commandOf (held (asked (s .sent))) command c)
+        go true clear e f = rw e given-sendable
+        go false true e f = rw e (rw f (none-sendable (s .n) (s .mask) now))
+        go false false e f = rw e (rw f held-sendable)
+
+  -- where wait remains, the K1 last sent has a section's channel
+  wait-channel : (clear enters waits : Bool) → entersWait (asked (s .sent)) ≡ enters → isWait (codeOf (s .sent)) ≡ waits
+      → 0 < waitNow clear enters waits (s .w) (s .left) → 1 ≤ channelOf (s .sent)
+  unfolding heldIn
+  wait-channel true enters waits e f h = absurd (omega arith)
+  wait-channel false true waits e f h =
+      leb-true 1 (channelOf (s .sent))
+      (and-eq-true-iff (isFailOrDegrade (codeOf (s .sent))) (leb 1 (channelOf (s .sent))) .0 e .1)
+  wait-channel false false false e f h = absurd (omega arith)
+  wait-channel false false true e f h = go (eqb (channelOf (s .sent)) 0) refl
+    where
+      go : (z : Bool) → eqb (channelOf (s .sent)) 0 ≡ z → 1 ≤ channelOf (s .sent)
+      go true z =
+          let six : codeOf (s .sent) ≡ 0b0110 = eqb-true (codeOf (s .sent)) 0b0110 f in
+          let zero : channelOf (s .sent) ≡ 0 = eqb-true (channelOf (s .sent)) 0 z in
+          absurd (false≢true (sym (carries-0 requests (s .n) 0b0110) ∙ (rw (six, zero) at (well .carried))))
+      go false z = let some : channelOf (s .sent) ≡ 0 → ⊥ = eqb-false (channelOf (s .sent)) 0 z in omega arith
+
+  waiting-sendable : Sendable (s .n) (s .mask) (waitOf s command) (waiting (waitOf s command) (asked (s .sent)))
+  waiting-sendable = go (ltb 0 (waitOf s command)) refl
+    where
+      go : (t : Bool) → ltb 0 (waitOf s command) ≡ t
+          → Sendable (s .n) (s .mask) (waitOf s command) (waiting (waitOf s command) (asked (s .sent)))
+      go true e =
+          let remains = ltb-true 0 (waitOf s command) e in
+          rw e
+          (wait-sendable (s .n) (s .mask) (waitOf s command) (channelOf (s .sent))
+          (wait-channel (isClear command) (entersWait (asked (s .sent))) (isWait (codeOf (s .sent))) refl refl remains)
+          (carried-within requests (s .n) (codeOf (s .sent)) (channelOf (s .sent)) (well .carried)) remains)
+      go false e = rw e (none-sendable (s .n) (s .mask) (waitOf s command))
+
+  -- behind section 0 there are n sections
+  working-number : length (drop 1 conditions) ≡ s .n
+  working-number = go conditions (given-well .number)
+    where
+      go : (xs : List ℕ) → length xs ≡ s .n + 1 → length (drop 1 xs) ≡ s .n
+      go [] h = absurd (omega arith)
+      go (x ∷ xs) h = omega arith
+
+  local-sendable : Sendable (s .n) (s .mask) (waitOf s command) (localOf s (held (asked (s .sent))) (protection conditions) (drop 1 conditions) command c)
+  unfolding localRequest
+  local-sendable =
+      let room : 0 + length (protection conditions ∷ drop 1 conditions) ≤ s .n + 1 =
+      omega (arith, working-number) in
+      let sections = conditions-sendable (s .n) (s .mask) (waitOf s command) (protection conditions ∷ drop 1 conditions) 0 room in
+      best-has (byRank rankOf) (Sendable (s .n) (s .mask) (waitOf s command))
+      (candidates (s .mask) (protection conditions) (drop 1 conditions) (commandOf (held (asked (s .sent))) command c)
+      (waiting (waitOf s command) (asked (s .sent))))
+      noRequest
+      (none-sendable (s .n) (s .mask) (waitOf s command)) (
+        command-sendable (waitOf s command),
+        each-append (Sendable (s .n) (s .mask) (waitOf s command))
+            (conditionsFrom (s .mask) 0 (protection conditions ∷ drop 1 conditions))
+            (waiting (waitOf s command) (asked (s .sent)) ∷ []) sections
+            (waiting-sendable, tt),
+      )
+
+  pub sent-sendable : (failed : Bool) (k1 k2 : ℕ)
+      → Sendable (s .n) (s .mask) (waitOf s command)
+      (decided (accepting s failed k1 k2 .request) (localOf s (held (asked (s .sent))) (protection conditions) (drop 1 conditions) command c))
+  sent-sendable failed k1 k2 = go (byRank rankOf (accepting s failed k1 k2 .request) (localOf s (held (asked (s .sent))) (protection conditions) (drop 1 conditions) command c)) refl
+    where
+      go : (t : Bool) → byRank rankOf (accepting s failed k1 k2 .request) (localOf s (held (asked (s .sent))) (protection conditions) (drop 1 conditions) command c) ≡ t
+          → Sendable (s .n) (s .mask) (waitOf s command)
+          (decided (accepting s failed k1 k2 .request) (localOf s (held (asked (s .sent))) (protection conditions) (drop 1 conditions) command c))
+      go true e =
+          rw e
+          (reverse-sendable (s .n) (s .mask) (waitOf s command) (accepting s failed k1 k2 .request .channel)
+          (far-channel failed k1 k2))
+      go false e = rw e local-sendable
+
+  -- the wait does not pass W
+  pub wait-within : waitOf s command ≤ s .w
+  wait-within = go (isClear command) (entersWait (asked (s .sent))) (isWait (codeOf (s .sent))) refl
+    where
+      go : (clear enters waits : Bool) → isWait (codeOf (s .sent)) ≡ waits
+          → waitNow clear enters waits (s .w) (s .left) ≤ s .w
+      go true enters waits e = omega arith
+      go false true waits e = omega arith
+      go false false false e = omega arith
+      go false false true e =
+          let fits : leb 1 (s .left) && leb (s .left) (s .w) ≡ true = rw e at (well .waits) in
+          let below = leb-true (s .left) (s .w) (and-eq-true-iff (leb 1 (s .left)) (leb (s .left) (s .w)) .0 fits .1) in
+          omega arith

@@ -1,0 +1,68 @@
+-- `accepting` meets its contract: the decoder's answer is the usable record, or comes of a pair with a mark.
+use mathlib.Core.Path.{sym, _∙_}
+use Rattle.pair.proofs.Coding.{fit-mark, usable-facts, mark-none}
+use Rattle.controller.specs.Rules.{accepting}
+use Rattle.controller.proofs.Usability.{other-marked}
+use borrow.Author.Needs.{needs}
+use Rattle.controller.proofs.acceptance.accepting.Statement.{statement}
+use Rattle.controller.proofs.acceptance.accepting.Tie as tie
+
+accepted-requires : tie.Need-accepted-requires
+accepted-requires c κs = search needs
+
+returns : tie.Need-returns
+unfolding accepting
+returns c = rw (c .accepted .ensures, c .before .if1 .taken)
+
+decode-requires : tie.Need-decode-requires
+decode-requires c κs = search needs
+
+enum-known-d : tie.Need-enum-known-d
+enum-known-d c = search needs
+
+mark-in-requires : tie.Need-mark-in-requires
+mark-in-requires c κs = search needs
+
+accepted-requires-2 : tie.Need-accepted-requires-2
+accepted-requires-2 c κs = search needs
+
+returns-2 : tie.Need-returns-2
+unfolding accepting
+returns-2 c =
+    let a = c .before .before .before .before .before .args in
+    let fits = c .before .before .before .before .before .pre in
+    let d = c .before .before .before .decode in
+    rw (
+      c .accepted2 .ensures,
+      c .before .mark-in .ensures,
+      d .ensures .numbers,
+      fit-mark (a .s .n) (a .k1) (a .k2) fits,
+      c .before .before .before .before .if1 .left,
+      other-marked (a .s .n) (a .k1) (a .k2) (d .result) fits (d .ensures .decided) (c .before .before .match .keys2),
+    )
+
+returns-3 : tie.Need-returns-3
+unfolding accepting
+returns-3 c =
+    let a = c .before .before .before .before .before .args in
+    let d = c .before .before .before .decode in
+    let p = c .before .d .given .0 .0 in
+    let facts = usable-facts (a .s .n) (a .k1) (a .k2) p (sym (d .ensures .decided) ∙ c .before .d .given .1) in
+    rw (
+      facts .1,
+      c .before .before .before .before .if1 .left,
+      mark-none (a .s .n) (a .k1) (a .k2) (facts .0),
+    )
+
+pub accepting-spec : {M : Type 1} → statement M
+accepting-spec =
+    tie.close
+    (tie.spec
+    accepted-requires
+    returns
+    decode-requires
+    enum-known-d
+    mark-in-requires
+    accepted-requires-2
+    returns-2
+    returns-3)

@@ -1,0 +1,15 @@
+-- `mask_fits` meets its contract.
+use native.Mathlib.Omega.{arith}
+use Rattle.controller.proofs.Usability.{section-bounds}
+use borrow.Author.Needs.{needs}
+use Rattle.controller.proofs.refusal.mask_fits.Statement.{statement}
+use Rattle.controller.proofs.refusal.mask_fits.Tie as tie
+
+shr-result : tie.Need-shr-result
+shr-result c = let b = section-bounds (c .args .n) (c .pre) in omega arith
+
+returns : tie.Need-returns
+returns c = search needs
+
+pub mask-fits-spec : {M : Type 1} → statement M
+mask-fits-spec = tie.close (tie.spec shr-result returns)

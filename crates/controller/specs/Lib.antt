@@ -1,0 +1,6 @@
+-- The controller of document 01, in its order: settings, the rules of one step, the refusals, the step, the sequences.
+pub mod Settings
+pub mod Rules
+pub mod Refusals
+pub mod Step
+pub mod Sequences

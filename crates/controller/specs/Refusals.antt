@@ -1,0 +1,58 @@
+-- Refusals 1 to 7 of a step (01, 'Numbered refusals').
+use mathlib.Core.Bool.{Bool, true, not, _&&_, _||_}
+use mathlib.Core.List.{List, [], _∷_}
+use Prim.Native.Nat.{ℕ, _+_}
+use lib.Dec.{ltb, leb, eqb}
+use lib.ListN.{length}
+use Rattle.basics.specs.Choice.{if_then_else_}
+use Rattle.basics.specs.First.{Check, _when_, firstOf}
+use Rattle.pair.specs.Request.{requests, carries}
+use Rattle.pair.specs.Marks.{codeOf, channelOf, mark}
+use Rattle.pair.specs.Coder.{sectionsFit}
+use Rattle.controller.specs.Settings.{high, maskFits}
+use Rattle.controller.specs.Rules.{isWait}
+use Rattle.controller.specs.declared.Controller.{Controller}
+
+-- a fail or degrade code of the other priority
+abbrev pub otherPriority : Bool → ℕ → Bool
+otherPriority isHigh code =
+    if isHigh then eqb code 0b1100 || eqb code 0b1010 else eqb code 0b1101 || eqb code 0b1011
+
+-- a fail or degrade code of a section 1..n against the mask
+abbrev pub againstMask : ℕ → ℕ → ℕ → Bool
+againstMask mask code c = leb 1 c && otherPriority (high mask c) code
+
+-- wait left in 1..W for WTR, 0 for others
+abbrev pub waitFits : ℕ → ℕ → ℕ → Bool
+waitFits code w left = if isWait code then leb 1 left && leb left w else eqb left 0
+
+-- the accepted pair is usable, the K1 last sent is in the table for n and coded by the mask, and the wait fits it
+unfoldable pub acceptable : Controller → Bool
+acceptable s =
+    eqb (mark (s .n) (s .k1) (s .k2)) 0
+    && carries requests (s .n) (codeOf (s .sent)) (channelOf (s .sent))
+    && not (againstMask (s .mask) (codeOf (s .sent)) (channelOf (s .sent)))
+    && waitFits (codeOf (s .sent)) (s .w) (s .left)
+
+-- no condition is above 2
+unfoldable pub conditionsFit : List ℕ → Bool
+conditionsFit [] = true
+conditionsFit (x ∷ rest) = leb x 2 && conditionsFit rest
+
+-- the command's channel: 0 for 0, 1, 2; in 1..n for 3, 4
+abbrev pub channelFits : ℕ → ℕ → ℕ → Bool
+channelFits n command c = if leb command 2 then eqb c 0 else leb 1 c && leb c n
+
+abbrev pub faults : Controller → List ℕ → ℕ → ℕ → List Check
+faults s conditions command c =
+    (1 when not (sectionsFit (s .n)))
+    ∷ (2 when not (maskFits (s .n) (s .mask)))
+    ∷ (3 when not (acceptable s))
+    ∷ (4 when not (eqb (length conditions) (s .n + 1)))
+    ∷ (5 when not (conditionsFit conditions))
+    ∷ (6 when ltb 4 command)
+    ∷ (7 when not (channelFits (s .n) command c))
+    ∷ []
+
+unfoldable pub refusal : Controller → List ℕ → ℕ → ℕ → ℕ
+refusal s conditions command c = firstOf (faults s conditions command c)

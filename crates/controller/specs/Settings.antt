@@ -1,0 +1,52 @@
+-- Settings, and the fresh record (01, 'Settings' and 'One step').
+use mathlib.Core.Bool.{Bool, true, not, _||_}
+use mathlib.Core.List.{List, [], _∷_}
+use Prim.Native.Nat.{ℕ, _-_, _/_, _%_, _^_}
+use lib.Dec.{eqb}
+use Rattle.basics.specs.Choice.{if_then_else_}
+use Rattle.basics.specs.First.{Check, _when_, firstOf}
+use Rattle.pair.specs.Coder.{sectionsFit}
+use Rattle.controller.specs.declared.Controller.{Controller}
+use Rattle.controller.specs.declared.Made.{Made}
+use Rattle.controller.specs.declared.Made.the-variants as made
+
+-- bit c-1 of the mask marks section c as high priority; section 0 is always high
+abbrev pub high : ℕ → ℕ → Bool
+high mask c = if eqb c 0 then true else eqb (mask / 2 ^ (c - 1) % 2) 1
+
+-- the mask has no bit at n or above
+abbrev pub maskFits : ℕ → ℕ → Bool
+maskFits n mask = eqb (mask / 2 ^ n) 0
+
+-- fresh: accepted 00 08, sent 00, left 0
+abbrev pub idleK1 : ℕ
+idleK1 = 0x00
+
+abbrev pub idleK2 : ℕ
+idleK2 = 0x08
+
+abbrev pub fresh : ℕ → ℕ → ℕ → Controller
+fresh n mask w = record { n = n; mask = mask; w = w; k1 = idleK1; k2 = idleK2; sent = idleK1; left = 0 }
+
+abbrev pub settingsFaults : ℕ → ℕ → List Check
+settingsFaults n mask = (1 when not (sectionsFit n)) ∷ (2 when not (maskFits n mask)) ∷ []
+
+-- what making a fresh record answers: a refusal with zeros, or the record
+pub record Making : Type 0 where
+  pub refusal : ℕ
+  pub controller : Controller
+
+abbrev pub zeros : Controller
+zeros = record { n = 0; mask = 0; w = 0; k1 = 0; k2 = 0; sent = 0; left = 0 }
+
+abbrev pub makingTold : Made → Making
+makingTold (made.Fresh s) = record { refusal = 0; controller = s }
+makingTold (made.Refused k) = record { refusal = k; controller = zeros }
+
+abbrev pub makingCase : Making → Made
+makingCase m = if eqb (m .refusal) 0 then made.Fresh (m .controller) else made.Refused (m .refusal)
+
+unfoldable pub making : ℕ → ℕ → ℕ → Making
+making n mask w =
+    if eqb (firstOf (settingsFaults n mask)) 0 then record { refusal = 0; controller = fresh n mask w }
+    else record { refusal = firstOf (settingsFaults n mask); controller = zeros }

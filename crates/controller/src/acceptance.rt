@@ -1,0 +1,59 @@
+// The accepted pair (01, 'One step', rule 1).
+use crate::Accepted;
+use crate::Controller;
+use crate::asked::asked;
+use pair::Decoded;
+use pair::decode;
+use request::Request;
+ghost use Rattle.controller.specs.Rules.{accepted, accepting};
+ghost use Rattle.pair.specs.Coder.{sectionsFit, decodingTold};
+ghost use mathlib.Core.Bool.{true};
+ghost use mathlib.Core.Path.{_≡_};
+
+// The mark of a pair that was decoded, 0 where it is usable.
+pub(crate) fn mark_in(d: Decoded) -> u8
+    ensures { λ r. ⌜ r ≡ decodingTold d .mark ⌝ }
+{
+    match d {
+        Decoded::Usable(_) => 0,
+        Decoded::Marked(m) => m,
+        Decoded::Refused(_) => 0,
+    }
+}
+
+fn accepted(k1: u8, k2: u8, m: u8) -> Accepted
+    ensures { λ r. ⌜ r ≡ accepted k1 k2 m ⌝ }
+{
+    let request = asked(k1);
+    Accepted {
+        k1,
+        k2,
+        request,
+        bridged: k2 / 16,
+        mark: m,
+    }
+}
+
+pub(crate) fn accepting(s: Controller, failed: bool, k1: u8, k2: u8) -> Accepted
+    requires { ⌜ sectionsFit (s .n) ≡ true ⌝ }
+    ensures { λ r. ⌜ r ≡ accepting s failed k1 k2 ⌝ }
+{
+    if failed {
+        return accepted(Controller::IDLE_K1, Controller::IDLE_K2, 0);
+    }
+    let d = decode(s.n, k1, k2);
+    let Decoded::Usable(p) = d else {
+        return accepted(s.k1, s.k2, mark_in(d));
+    };
+    let request = Request {
+        code: p.code,
+        channel: p.channel,
+    };
+    Accepted {
+        k1,
+        k2,
+        request,
+        bridged: p.bridged,
+        mark: 0,
+    }
+}

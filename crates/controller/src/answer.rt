@@ -1,0 +1,129 @@
+// What a step answers (01, 'One step').
+use crate::Accepted;
+use crate::Controller;
+use crate::Outcome;
+use crate::acceptance::accepting;
+use crate::asked::asked;
+use crate::command::given;
+use crate::command::held;
+use crate::command::kept;
+use crate::command::standing;
+use crate::command::taken;
+use crate::local::decided;
+use crate::local::local_request;
+use crate::wait::left_after;
+use crate::wait::wait_of;
+use crate::wait::waiting;
+use request::Request;
+use request::bridge;
+use request::fate;
+use request::selector;
+ghost use Prim.Native.Nat.{_≤_};
+ghost use Rattle.controller.specs.Refusals.{refusal};
+ghost use Rattle.controller.specs.Rules.{keepsBridge, same};
+ghost use Rattle.controller.specs.Step.{refused, answering, fateOf, localOf, moved};
+ghost use lib.ListN.{length, drop};
+ghost use mathlib.Core.Path.{_≡_};
+
+pub(crate) fn refused(k: u8, s: Controller) -> Outcome
+    ensures { λ r. ⌜ r ≡ refused k s ⌝ }
+{
+    Outcome {
+        refusal: k,
+        controller: s,
+        k1: 0,
+        k2: 0,
+        bridge: 0,
+        selector: 0,
+        mark: 0,
+        fate: 0,
+    }
+}
+
+fn same(a: Request, b: Request) -> bool
+    ensures { λ r. ⌜ r ≡ same a b ⌝ }
+{
+    (a.code == b.code) & (a.channel == b.channel)
+}
+
+// Where NR is sent (Table 7-4 as corrected in 003).
+fn keeps_bridge(sent: Request) -> bool
+    ensures { λ r. ⌜ r ≡ keepsBridge sent ⌝ }
+{
+    sent.code == 0b0000
+}
+
+fn answering(s: Controller, far: Accepted, sent: Request, wait: u16, fate: u8) -> Outcome
+    requires { ⌜ (sent .code ≤ 15) × (sent .channel ≤ 15) × (far .request .channel ≤ 15) ⌝ }
+    ensures { λ r. ⌜ r ≡ answering s far sent wait fate ⌝ }
+{
+    let heard = far.request;
+    let bridged = bridge(heard.channel, sent.channel, keeps_bridge(sent));
+    let selected = selector(sent.channel, far.bridged);
+    let left = left_after(sent, wait);
+    let k1 = sent.code * 16 + sent.channel;
+    let k2 = bridged * 16 + 0b1000;
+    let controller = Controller {
+        n: s.n,
+        mask: s.mask,
+        w: s.w,
+        k1: far.k1,
+        k2: far.k2,
+        sent: k1,
+        left,
+    };
+    Outcome {
+        refusal: 0,
+        controller,
+        k1,
+        k2,
+        bridge: bridged,
+        selector: selected,
+        mark: far.mark,
+        fate,
+    }
+}
+
+fn fate_of(hold: Request, command: u8, c: u8, sent: Request) -> u8
+    ensures { λ r. ⌜ r ≡ fateOf hold command c sent ⌝ }
+{
+    let kept_hold = kept(command, hold);
+    let new = given(command, c);
+    let replaced = taken(kept_hold, new);
+    fate(command, replaced, same(sent, new))
+}
+
+fn local_of(
+    s: Controller,
+    hold: Request,
+    protect: u8,
+    conditions: &[u8],
+    command: u8,
+    c: u8,
+) -> Request
+    requires { ⌜ length (now conditions) ≤ 16 ⌝ }
+    ensures { λ r. ⌜ r ≡ localOf s hold protect (drop 1 (now (conditions .entry))) command c ⌝ }
+{
+    let stands = standing(kept(command, hold), given(command, c));
+    let wait = waiting(wait_of(s, command), asked(s.sent));
+    local_request(s.mask, protect, conditions, stands, wait)
+}
+
+pub(crate) fn moved(s: Controller, k1: u8, k2: u8, conditions: &[u8], command: u8, c: u8) -> Outcome
+    requires { ⌜ refusal s (now conditions) command c ≡ 0 ⌝ }
+    ensures { λ r. ⌜ r ≡ moved s k1 k2 (now (conditions .entry)) command c ⌝ }
+{
+    let protect = conditions[0];
+    let hold = held(asked(s.sent));
+    let far = accepting(s, protect == 2, k1, k2);
+    let near = local_of(s, hold, protect, conditions, command, c);
+    let heard = far.request;
+    let sent = decided(heard, near);
+    answering(
+        s,
+        far,
+        sent,
+        wait_of(s, command),
+        fate_of(hold, command, c, sent),
+    )
+}

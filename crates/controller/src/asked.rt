@@ -1,0 +1,26 @@
+// What is asked for: requests, as a K1 has them.
+use pair::request::rank;
+use request::Request;
+ghost use Rattle.controller.specs.Rules.{asked, rankOfRequest};
+ghost use mathlib.Core.Path.{_≡_};
+
+// NR 0, which is sent where nothing is asked for.
+pub(crate) const NO_REQUEST: Request = Request {
+    code: 0b0000,
+    channel: 0,
+};
+
+pub(crate) fn asked(k1: u8) -> Request
+    ensures { λ r. ⌜ r ≡ asked k1 ⌝ }
+{
+    Request {
+        code: k1 / 16,
+        channel: k1 % 16,
+    }
+}
+
+pub(crate) fn rank_of(r: Request) -> u8
+    ensures { λ k. ⌜ k ≡ rankOfRequest r ⌝ }
+{
+    rank(r.code, r.channel)
+}

@@ -1,0 +1,96 @@
+// The controller: one end of a bidirectional, revertive 1:n group (01, 'Settings' and 'One step').
+mod acceptance;
+mod answer;
+mod asked;
+mod command;
+mod local;
+mod refusal;
+mod section;
+mod wait;
+
+use crate::answer::moved;
+use crate::answer::refused;
+use crate::refusal::refusal_of;
+use crate::refusal::settings_refusal;
+use request::Request;
+ghost use Rattle.basics.specs.Answer.{Answers};
+ghost use Rattle.controller.specs.Settings.{makingTold, makingCase, making};
+ghost use Rattle.controller.specs.Step.{step};
+ghost use mathlib.Core.Path.{_≡_};
+
+// The settings n, mask and W; the accepted pair; the K1 last sent; the steps of wait left.
+pub struct Controller {
+    pub n: u8,
+    pub mask: u16,
+    pub w: u16,
+    pub k1: u8,
+    pub k2: u8,
+    pub sent: u8,
+    pub left: u16,
+}
+
+impl Controller {
+    // The idle pair, 00 08: accepted by a fresh record, and where section 0 has failed.
+    const IDLE_K1: u8 = 0x00;
+
+    const IDLE_K2: u8 = 0x08;
+
+    pub fn fresh(n: u8, mask: u16, w: u16) -> Made
+        ensures { λ r. ⌜ Answers makingTold makingCase (making n mask w) r ⌝ }
+    {
+        let refusal = settings_refusal(n, mask);
+        if refusal == 0 {
+            let k1 = Controller::IDLE_K1;
+            let k2 = Controller::IDLE_K2;
+            Made::Fresh(Controller {
+                n,
+                mask,
+                w,
+                k1,
+                k2,
+                sent: k1,
+                left: 0,
+            })
+        } else {
+            Made::Refused(refusal)
+        }
+    }
+
+    pub fn step(self, k1: u8, k2: u8, conditions: &[u8], command: u8, channel: u8) -> Outcome
+        ensures { λ r. ⌜ r ≡ step self k1 k2 (now (conditions .entry)) command channel ⌝ }
+    {
+        let refusal = refusal_of(self, conditions, command, channel);
+        if refusal == 0 {
+            moved(self, k1, k2, conditions, command, channel)
+        } else {
+            refused(refusal, self)
+        }
+    }
+}
+
+// A fresh record, or a refusal.
+pub enum Made {
+    Fresh(Controller),
+    Refused(u8),
+}
+
+// The pair that a step has accepted: its bytes, what it asks for, the channel it bridges; and the mark of the received.
+pub struct Accepted {
+    pub k1: u8,
+    pub k2: u8,
+    pub request: Request,
+    pub bridged: u8,
+    pub mark: u8,
+}
+
+// What a step answers.
+pub struct Outcome {
+    pub refusal: u8,
+    pub controller: Controller,
+    pub k1: u8,
+    pub k2: u8,
+    pub bridge: u8,
+    pub selector: u8,
+    pub mark: u8,
+    pub fate: u8,
+}

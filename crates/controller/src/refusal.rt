@@ -1,0 +1,137 @@
+// Refusals 1 to 7 (01, 'Numbered refusals').
+use crate::Controller;
+use crate::acceptance::mark_in;
+use crate::section::high;
+use crate::wait::is_wait;
+use pair::decode;
+use pair::sections_fit;
+ghost use Prim.Native.Nat.{_≤_};
+ghost use Rattle.basics.specs.First.{firstOf};
+ghost use Rattle.controller.specs.Refusals.{otherPriority, againstMask, waitFits, acceptable};
+ghost use Rattle.controller.specs.Refusals.{conditionsFit, channelFits, refusal};
+ghost use Rattle.controller.specs.Settings.{maskFits, settingsFaults};
+ghost use Rattle.pair.specs.Coder.{sectionsFit};
+ghost use Rattle.pair.specs.Marks.{mark};
+ghost use lib.Dec.{eqb};
+ghost use mathlib.Core.Bool.{true};
+ghost use mathlib.Core.Path.{_≡_};
+
+fn mask_fits(n: u8, mask: u16) -> bool
+    requires { ⌜ sectionsFit n ≡ true ⌝ }
+    ensures { λ r. ⌜ r ≡ maskFits n mask ⌝ }
+{
+    mask >> n == 0
+}
+
+pub(crate) fn settings_refusal(n: u8, mask: u16) -> u8
+    ensures { λ r. ⌜ r ≡ firstOf (settingsFaults n mask) ⌝ }
+{
+    let n_fits = sections_fit(n);
+    if !n_fits {
+        return 1;
+    }
+    let mask_good = mask_fits(n, mask);
+    if !mask_good {
+        return 2;
+    }
+    0
+}
+
+fn usable(n: u8, k1: u8, k2: u8) -> bool
+    requires { ⌜ sectionsFit n ≡ true ⌝ }
+    ensures { λ r. ⌜ r ≡ eqb (mark n k1 k2) 0 ⌝ }
+{
+    mark_in(decode(n, k1, k2)) == 0
+}
+
+fn other_priority(first: bool, code: u8) -> bool
+    ensures { λ r. ⌜ r ≡ otherPriority first code ⌝ }
+{
+    if first {
+        (code == 0b1100) | (code == 0b1010)
+    } else {
+        (code == 0b1101) | (code == 0b1011)
+    }
+}
+
+fn against_mask(mask: u16, code: u8, c: u8) -> bool
+    requires { ⌜ c ≤ 16 ⌝ }
+    ensures { λ r. ⌜ r ≡ againstMask mask code c ⌝ }
+{
+    (1 <= c) & other_priority(high(mask, c), code)
+}
+
+fn wait_fits(code: u8, w: u16, left: u16) -> bool
+    ensures { λ r. ⌜ r ≡ waitFits code w left ⌝ }
+{
+    if is_wait(code) {
+        (1 <= left) & (left <= w)
+    } else {
+        left == 0
+    }
+}
+
+fn acceptable(s: Controller) -> bool
+    requires { ⌜ sectionsFit (s .n) ≡ true ⌝ }
+    ensures { λ r. ⌜ r ≡ acceptable s ⌝ }
+{
+    let code = s.sent / 16;
+    let channel = s.sent % 16;
+    let pair_usable = usable(s.n, s.k1, s.k2);
+    let in_table = usable(s.n, s.sent, Controller::IDLE_K2);
+    let against = against_mask(s.mask, code, channel);
+    let wait_good = wait_fits(code, s.w, s.left);
+    pair_usable & in_table & !against & wait_good
+}
+
+fn conditions_fit(conditions: &[u8]) -> bool
+    ensures { λ r. ⌜ r ≡ conditionsFit (now (conditions .entry)) ⌝ }
+{
+    let mut i = 0;
+    while i < conditions.len() {
+        if 2 < conditions[i] {
+            return false;
+        }
+        i += 1;
+    }
+    true
+}
+
+fn channel_fits(n: u8, command: u8, c: u8) -> bool
+    ensures { λ r. ⌜ r ≡ channelFits n command c ⌝ }
+{
+    if command <= 2 {
+        c == 0
+    } else {
+        (1 <= c) & (c <= n)
+    }
+}
+
+pub(crate) fn refusal_of(s: Controller, conditions: &[u8], command: u8, c: u8) -> u8
+    ensures { λ r. ⌜ r ≡ refusal s (now (conditions .entry)) command c ⌝ }
+{
+    let n = s.n;
+    let settings = settings_refusal(n, s.mask);
+    if settings != 0 {
+        return settings;
+    }
+    let record_good = acceptable(s);
+    if !record_good {
+        return 3;
+    }
+    if conditions.len() != n as usize + 1 {
+        return 4;
+    }
+    let conditions_good = conditions_fit(conditions);
+    if !conditions_good {
+        return 5;
+    }
+    if 4 < command {
+        return 6;
+    }
+    let channel_good = channel_fits(n, command, c);
+    if !channel_good {
+        return 7;
+    }
+    0
+}

@@ -1,0 +1,50 @@
+// What the condition of a section asks for (01, 'Settings' and rule 3).
+use crate::asked::NO_REQUEST;
+use request::Request;
+ghost use Prim.Native.Nat.{_≤_};
+ghost use Rattle.controller.specs.Rules.{failCode, degradeCode, condition};
+ghost use Rattle.controller.specs.Settings.{high};
+ghost use mathlib.Core.Path.{_≡_};
+
+pub(crate) fn high(mask: u16, c: u8) -> bool
+    requires { ⌜ c ≤ 16 ⌝ }
+    ensures { λ r. ⌜ r ≡ high mask c ⌝ }
+{
+    if c == 0 {
+        true
+    } else {
+        (mask >> (c - 1)) % 2 == 1
+    }
+}
+
+fn fail_code(first: bool) -> u8
+    ensures { λ r. ⌜ r ≡ failCode first ⌝ }
+{
+    if first { 0b1101 } else { 0b1100 }
+}
+
+fn degrade_code(first: bool) -> u8
+    ensures { λ r. ⌜ r ≡ degradeCode first ⌝ }
+{
+    if first { 0b1011 } else { 0b1010 }
+}
+
+pub(crate) fn condition(mask: u16, c: u8, x: u8) -> Request
+    requires { ⌜ c ≤ 16 ⌝ }
+    ensures { λ r. ⌜ r ≡ condition mask c x ⌝ }
+{
+    let first = high(mask, c);
+    if x == 2 {
+        return Request {
+            code: fail_code(first),
+            channel: c,
+        };
+    }
+    if x == 1 {
+        return Request {
+            code: degrade_code(first),
+            channel: c,
+        };
+    }
+    NO_REQUEST
+}

@@ -1,0 +1,57 @@
+// The wait to restore (01, 'One step', rules 3 and 5).
+use crate::Controller;
+use crate::asked::NO_REQUEST;
+use crate::asked::asked;
+use request::Request;
+use request::wait_now;
+ghost use Rattle.controller.specs.Rules.{isFailOrDegrade, isWait, entersWait, waiting, leftAfter};
+ghost use Rattle.controller.specs.Step.{waitOf};
+ghost use mathlib.Core.Path.{_≡_};
+
+fn is_fail_or_degrade(code: u8) -> bool
+    ensures { λ r. ⌜ r ≡ isFailOrDegrade code ⌝ }
+{
+    (code == 0b1101) | (code == 0b1100) | (code == 0b1011) | (code == 0b1010)
+}
+
+pub(crate) fn is_wait(code: u8) -> bool
+    ensures { λ r. ⌜ r ≡ isWait code ⌝ }
+{
+    code == 0b0110
+}
+
+fn enters_wait(last: Request) -> bool
+    ensures { λ r. ⌜ r ≡ entersWait last ⌝ }
+{
+    is_fail_or_degrade(last.code) & (1 <= last.channel)
+}
+
+// What is left of the wait in this step.
+pub(crate) fn wait_of(s: Controller, command: u8) -> u16
+    ensures { λ r. ⌜ r ≡ waitOf s command ⌝ }
+{
+    let last = asked(s.sent);
+    let entering = enters_wait(last);
+    let running = is_wait(last.code);
+    wait_now(command == 1, entering, running, s.w, s.left)
+}
+
+// At 0 there is no candidate.
+pub(crate) fn waiting(now: u16, last: Request) -> Request
+    ensures { λ r. ⌜ r ≡ waiting now last ⌝ }
+{
+    if 0 < now {
+        Request {
+            code: 0b0110,
+            channel: last.channel,
+        }
+    } else {
+        NO_REQUEST
+    }
+}
+
+pub(crate) fn left_after(sent: Request, now: u16) -> u16
+    ensures { λ r. ⌜ r ≡ leftAfter sent now ⌝ }
+{
+    if is_wait(sent.code) { now } else { 0 }
+}
