@@ -1,15 +1,19 @@
 -- Laws of the candidates for the local request.
 use mathlib.Core.Path.{_≡_, refl, sym, ap, _∙_}
+use mathlib.Core.Bool.{Bool, true, false}
 use mathlib.Core.List.{List, [], _∷_}
+use mathlib.Core.Logic.{_⊎_, inr}
 use Prim.Native.Nat.{ℕ, suc, _+_, _<_, _≤_}
 use native.Mathlib.Numerals.{add-one}
+use lib.Dec.{eqb}
 use lib.ListN.{length, getD, drop, drop-of-length-le}
 use lib.Seq.{drop-cons}
-use Rattle.pair.specs.Request.{rankOf}
+use Rattle.pair.specs.Request.{rankIn, rankOf}
 use Rattle.request.specs.Order.{byRank, betterOf, best}
 use Rattle.request.specs.declared.Request.{Request}
-use Rattle.request.proofs.Order.{best-append}
-use Rattle.controller.specs.Rules.{noRequest, condition, conditionsFrom, localRequest}
+use Rattle.request.proofs.Order.{OneOf, best-append, best-one, best-above, best-single}
+use Rattle.request.proofs.Order.{rank-irreflexive, rank-transitive}
+use Rattle.controller.specs.Rules.{reverse, noRequest, condition, conditionsFrom, candidates, localRequest, decided}
 
 -- the best of `found` and of the conditions of section c and those after it
 abbrev pub bestFrom : ℕ → ℕ → Request → List ℕ → Request
@@ -37,3 +41,39 @@ unfolding localRequest best
 candidate-wise mask protection working command wait =
     best-append (byRank rankOf) (conditionsFrom mask 1 working) (wait ∷ [])
     (betterOf (byRank rankOf) (condition mask 0 protection) (betterOf (byRank rankOf) command noRequest))
+
+-- RR and NR have rank 0 in the table
+pub reverse-rank : (c : ℕ) → rankOf 0b0010 c ≡ 0
+unfolding rankOf rankIn
+reverse-rank c = go (eqb c 0) refl
+  where
+    go : (t : Bool) → eqb c 0 ≡ t → rankOf 0b0010 c ≡ 0
+    go true e = rw e
+    go false e = rw e
+
+pub reverse-loses : (c : ℕ) (near : Request) → decided (reverse c) near ≡ near
+reverse-loses c near = rw (reverse-rank c)
+
+pub none-loses : (near : Request) → decided noRequest near ≡ near
+unfolding rankOf rankIn
+none-loses near = refl
+
+module _ (mask protection : ℕ) (working : List ℕ) (command wait : Request) where
+  abbrev all : List Request
+  all = candidates mask protection working command wait
+
+  pub local-one : (localRequest mask protection working command wait ≡ noRequest)
+      ⊎ OneOf (localRequest mask protection working command wait) all
+  unfolding localRequest
+  local-one = best-one (byRank rankOf) all noRequest
+
+  pub local-above : (x : Request) → OneOf x all → byRank rankOf x (localRequest mask protection working command wait) ≡ false
+  unfolding localRequest
+  local-above x among = best-above (byRank rankOf) (rank-irreflexive rankOf) (rank-transitive rankOf) all noRequest x (inr among)
+
+  pub local-single : (x : Request) → byRank rankOf x noRequest ≡ true
+      → ((y : Request) → OneOf y all → (y ≡ x) ⊎ (byRank rankOf y noRequest ≡ false)) → OneOf x all
+      → localRequest mask protection working command wait ≡ x
+  unfolding localRequest
+  local-single x wins =
+      best-single (byRank rankOf) (rank-irreflexive rankOf) (rank-transitive rankOf) noRequest x wins all

@@ -6,4 +6,5 @@ pub mod Inputs
 pub mod Sendable
 pub mod Sending
 pub mod Making
-mod Trial
+pub mod Keeping
+mod Theorems

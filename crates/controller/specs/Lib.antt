@@ -3,4 +3,5 @@ pub mod Settings
 pub mod Rules
 pub mod Refusals
 pub mod Step
+pub mod Run
 pub mod Sequences

@@ -174,7 +174,7 @@ line-read : (remote : Bool) → eqb (lineOf remote) 0b110 ≡ remote
 line-read true = refl
 line-read false = refl
 
-bytes-usable : (n : ℕ) (p : Pair) → sectionsFit n ≡ true → encodable n p ≡ true
+pub bytes-usable : (n : ℕ) (p : Pair) → sectionsFit n ≡ true → encodable n p ≡ true
     → UsablePair n (firstByte p) (secondByte p) × (pairOf (firstByte p) (secondByte p) ≡ p)
 bytes-usable n p fits can =
     let room = four-bits n p fits can in

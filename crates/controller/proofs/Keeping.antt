@@ -1,0 +1,175 @@
+-- What a step keeps: the settings, and that the record is acceptable. What it sends is a usable pair.
+use mathlib.Core.Path.{_≡_, refl, sym, ap, _∙_}
+use mathlib.Core.Bool.{Bool, true, false, _&&_, and-eq-true-iff}
+use mathlib.Core.List.{List, [], _∷_}
+use Prim.Native.Nat.{ℕ, _+_, _*_, _≤_, _<_}
+use native.Mathlib.Nat.{add-zero}
+use native.Mathlib.Omega.{arith}
+use lib.Dec.{ltb, leb, eqb}
+use lib.ListN.{length, drop}
+use borrow.Author.Tests.{leb-true, eqb-true, eqb-false, le-leb, eq-eqb, le-ltb}
+use Rattle.basics.specs.Choice.{if_then_else_}
+use Rattle.basics.proofs.Table.{every}
+use Rattle.pair.specs.Request.{requests, carries}
+use Rattle.pair.specs.Marks.{codeOf, channelOf, bridgedOf, bit5, lineBits, mark}
+use Rattle.pair.specs.Coder.{sectionsFit, encodable}
+use Rattle.pair.specs.declared.Pair.{Pair}
+use Rattle.pair.proofs.Coding.{UsablePair, mark-none, bytes-usable}
+use Rattle.request.specs.Bridge.{bridge}
+use Rattle.request.specs.declared.Request.{Request}
+use Rattle.request.proofs.Channels.{bridge-within}
+use Rattle.controller.specs.Settings.{maskFits, idleK1, idleK2, fresh}
+use Rattle.controller.specs.Rules.{asked, accepting, held, isWait, decided, leftAfter, keepsBridge, k1Of, k2Of}
+use Rattle.controller.specs.Refusals.{againstMask, waitFits, acceptable, conditionsFit, channelFits, refusal}
+use Rattle.controller.specs.Step.{protection, waitOf, fateOf, localOf, answering, moved, step}
+use Rattle.controller.specs.Run.{Input, inputFits, stepBy, run}
+use Rattle.controller.specs.declared.Controller.{Controller}
+use Rattle.controller.specs.declared.Accepted.{Accepted}
+use Rattle.controller.specs.declared.Outcome.{Outcome}
+use Rattle.controller.proofs.Usability.{section-bounds, idle-usable}
+use Rattle.controller.proofs.Inputs.{WellFormed, well-formed, Acceptable, acceptable-facts, facts-acceptable}
+use Rattle.controller.proofs.Sendable.{Sendable, sendable-room}
+use Rattle.controller.proofs.Sending.{Usable, far-usable, far-channel, sent-sendable, wait-within}
+
+-- code and channel are read back from a K1
+pub k1-back : (r : Request) → r .channel ≤ 14 → (codeOf (k1Of r) ≡ r .code) × (channelOf (k1Of r) ≡ r .channel)
+k1-back r h = (omega arith, omega arith)
+
+-- what is answered once it is known what is accepted and what is sent
+module _ (s : Controller) (far : Accepted) (sent : Request) (now fate : ℕ) (fits : sectionsFit (s .n) ≡ true)
+    (usable : Usable (s .n) far) (channel : far .request .channel ≤ s .n) (able : Sendable (s .n) (s .mask) now sent)
+    (within : now ≤ s .w) where
+  room : (sent .code ≤ 15) × (sent .channel ≤ 14)
+  room = sendable-room (s .n) (s .mask) now sent fits able
+
+  wait-fits : waitFits (sent .code) (s .w) (leftAfter sent now) ≡ true
+  wait-fits = go (isWait (sent .code)) refl
+    where
+      go : (t : Bool) → isWait (sent .code) ≡ t → waitFits (sent .code) (s .w) (leftAfter sent now) ≡ true
+      go true e = let some = able .waits e in rw e (rw (le-leb 1 now some, le-leb now (s .w) within))
+      go false e = rw e
+
+  answer-acceptable : acceptable (answering s far sent now fate .controller) ≡ true
+  answer-acceptable =
+      let back = k1-back sent (room .1) in
+      facts-acceptable (answering s far sent now fate .controller)
+      record {
+        usable = usable .usable;
+        carried = rw (back .0, back .1) (able .carried);
+        coded = rw (back .0, back .1) (able .coded);
+        waits = rw (back .0) wait-fits;
+      }
+
+  -- the record that the sent pair encodes, and decodes to
+  abbrev sentPair : Pair
+  sentPair =
+      record {
+        code = sent .code;
+        channel = sent .channel;
+        bridged = bridge (far .request .channel) (sent .channel) (keepsBridge sent);
+        remote = false;
+      }
+
+  answer-usable : UsablePair (s .n) (answering s far sent now fate .k1) (answering s far sent now fate .k2)
+  answer-usable =
+      let b = bridge-within (far .request .channel) (sent .channel) (keepsBridge sent) in
+      let bridged : leb (sentPair .bridged) (s .n) ≡ true = le-leb (sentPair .bridged) (s .n) (omega arith) in
+      let can : encodable (s .n) sentPair ≡ true = rw (able .carried, bridged) in
+      rw (← add-zero (k2Of (sentPair .bridged))) (bytes-usable (s .n) sentPair fits can .0)
+
+  answer-line : lineBits (answering s far sent now fate .k2) ≡ 0
+  answer-line = omega arith
+
+-- of a step that is not refused
+pub record Kept (s : Controller) (o : Outcome) : Type 0 where
+  pub sections : o .controller .n ≡ s .n
+  pub priorities : o .controller .mask ≡ s .mask
+  pub wait : o .controller .w ≡ s .w
+  pub accepts : acceptable (o .controller) ≡ true
+
+pub record Sent (s : Controller) (o : Outcome) : Type 0 where
+  pub usable : mark (s .n) (o .k1) (o .k2) ≡ 0
+  pub line : lineBits (o .k2) ≡ 0b000
+  pub recorded : o .k1 ≡ o .controller .sent
+
+module _ (s : Controller) (k1 k2 : ℕ) (conditions : List ℕ) (command c : ℕ) where
+  not-refused : step s k1 k2 conditions command c .refusal ≡ 0
+      → (refusal s conditions command c ≡ 0) × (step s k1 k2 conditions command c ≡ moved s k1 k2 conditions command c)
+  unfolding step
+  not-refused h = go (eqb (refusal s conditions command c) 0) refl
+    where
+      go : (z : Bool) → eqb (refusal s conditions command c) 0 ≡ z
+          → (refusal s conditions command c ≡ 0) × (step s k1 k2 conditions command c ≡ moved s k1 k2 conditions command c)
+      go true e = (eqb-true (refusal s conditions command c) 0 e, rw e)
+      go false e = absurd (eqb-false (refusal s conditions command c) 0 e (rw e at h))
+
+  moved-keeps : refusal s conditions command c ≡ 0
+      → Kept s (moved s k1 k2 conditions command c) × Sent s (moved s k1 k2 conditions command c)
+  unfolding moved
+  moved-keeps h =
+      let well = well-formed s conditions command c h in
+      let failed = eqb (protection conditions) 2 in
+      let far = accepting s failed k1 k2 in
+      let hold = held (asked (s .sent)) in
+      let sent = decided (far .request) (localOf s hold (protection conditions) (drop 1 conditions) command c) in
+      let now = waitOf s command in
+      let fate = fateOf hold command c sent in
+      let usable = far-usable s conditions command c well failed k1 k2 in
+      let channel = far-channel s conditions command c well failed k1 k2 in
+      let able = sent-sendable s conditions command c well failed k1 k2 in
+      let within = wait-within s conditions command c well in
+      let accepts = answer-acceptable s far sent now fate (well .fits) usable channel able within in
+      let pair = answer-usable s far sent now fate (well .fits) usable channel able within in
+      let line = answer-line s far sent now fate (well .fits) usable channel able within in (
+        record { sections = refl; priorities = refl; wait = refl; accepts = accepts },
+        record {
+          usable = mark-none (s .n) (answering s far sent now fate .k1) (answering s far sent now fate .k2) pair;
+          line = line;
+          recorded = refl;
+        },
+      )
+
+  pub step-keeps : step s k1 k2 conditions command c .refusal ≡ 0
+      → Kept s (step s k1 k2 conditions command c) × Sent s (step s k1 k2 conditions command c)
+  step-keeps h = let taken = not-refused h in rw (taken .1) (moved-keeps (taken .0))
+
+  -- a step is not refused, if its settings, its record and its inputs meet none of the refusals
+  pub step-taken : sectionsFit (s .n) ≡ true → maskFits (s .n) (s .mask) ≡ true → acceptable s ≡ true
+      → inputFits (s .n) record { k1 = k1; k2 = k2; conditions = conditions; command = command; channel = c } ≡ true
+      → step s k1 k2 conditions command c .refusal ≡ 0
+  unfolding step moved refusal
+  step-taken fits mask-fits accepts input =
+      let last =
+      and-eq-true-iff
+      (eqb (length conditions) (s .n + 1) && conditionsFit conditions && leb command 4)
+      (channelFits (s .n) command c) .0 input in
+      let third =
+      and-eq-true-iff (eqb (length conditions) (s .n + 1) && conditionsFit conditions) (leb command 4) .0 (last .0) in
+      let two = and-eq-true-iff (eqb (length conditions) (s .n + 1)) (conditionsFit conditions) .0 (third .0) in
+      let command-fits : ltb 4 command ≡ false = le-ltb 4 command (leb-true command 4 (third .1)) in
+      rw (fits, mask-fits, accepts, two .0, two .1, command-fits, last .1)
+
+pub fresh-acceptable : (n mask w : ℕ) → sectionsFit n ≡ true → acceptable (fresh n mask w) ≡ true
+unfolding carries
+fresh-acceptable n mask w fits =
+    facts-acceptable (fresh n mask w)
+    record {
+      usable = eqb-true (mark n idleK1 idleK2) 0 (idle-usable n idleK1 fits);
+      carried = refl;
+      coded = refl;
+      waits = refl;
+    }
+
+abbrev pub notRefused : Outcome → Bool
+notRefused o = eqb (o .refusal) 0
+
+pub run-taken : (inputs : List Input) (s : Controller) → sectionsFit (s .n) ≡ true → maskFits (s .n) (s .mask) ≡ true
+    → acceptable s ≡ true → every (inputFits (s .n)) inputs ≡ true → every notRefused (run s inputs) ≡ true
+run-taken [] s fits mask-fits accepts well = refl
+run-taken (i ∷ rest) s fits mask-fits accepts well =
+    let both = and-eq-true-iff (inputFits (s .n) i) (every (inputFits (s .n)) rest) .0 well in
+    let first = step-taken s (i .k1) (i .k2) (i .conditions) (i .command) (i .channel) fits mask-fits accepts (both .0) in
+    let kept = step-keeps s (i .k1) (i .k2) (i .conditions) (i .command) (i .channel) first .0 in
+    rw first
+    (run-taken rest (stepBy s i .controller) (rw (kept .sections) fits) (rw (kept .sections, kept .priorities) mask-fits)
+    (kept .accepts) (rw (kept .sections) (both .1)))

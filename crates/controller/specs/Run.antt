@@ -1,0 +1,34 @@
+-- A run: steps one after the other, each with the record that the step before it answered.
+use mathlib.Core.Bool.{Bool, true, _&&_}
+use mathlib.Core.List.{List, [], _∷_}
+use Prim.Native.Nat.{ℕ, _+_}
+use lib.Dec.{leb, eqb}
+use lib.ListN.{length}
+use Rattle.controller.specs.Refusals.{conditionsFit, channelFits}
+use Rattle.controller.specs.Step.{step}
+use Rattle.controller.specs.declared.Controller.{Controller}
+use Rattle.controller.specs.declared.Outcome.{Outcome}
+
+-- what one step is handed
+pub record Input : Type 0 where
+  pub k1 : ℕ
+  pub k2 : ℕ
+  pub conditions : List ℕ
+  pub command : ℕ
+  pub channel : ℕ
+
+-- it meets none of refusals 4 to 7, with n sections
+abbrev pub inputFits : ℕ → Input → Bool
+inputFits n i =
+    eqb (length (i .conditions)) (n + 1)
+    && conditionsFit (i .conditions)
+    && leb (i .command) 4
+    && channelFits n (i .command) (i .channel)
+
+abbrev pub stepBy : Controller → Input → Outcome
+stepBy s i = step s (i .k1) (i .k2) (i .conditions) (i .command) (i .channel)
+
+-- what the steps of a run answer
+abbrev pub run : Controller → List Input → List Outcome
+run s [] = []
+run s (i ∷ rest) = stepBy s i ∷ run (stepBy s i .controller) rest
