@@ -114,7 +114,8 @@ pub(crate) fn moved(s: Controller, k1: u8, k2: u8, conditions: &[u8], command: u
     ensures { λ r. ⌜ r ≡ moved s k1 k2 (now (conditions .entry)) command c ⌝ }
 {
     let protect = conditions[0];
-    let hold = held(asked(s.sent));
+    let last = s.sent;
+    let hold = held(asked(last));
     let far = accepting(s, protect == 2, k1, k2);
     let near = local_of(s, hold, protect, conditions, command, c);
     let heard = far.request;

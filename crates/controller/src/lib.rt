@@ -75,7 +75,7 @@ pub enum Made {
 }
 
 // The pair that a step has accepted: its bytes, what it asks for, the channel it bridges; and the mark of the received.
-pub struct Accepted {
+pub(crate) struct Accepted {
     pub k1: u8,
     pub k2: u8,
     pub request: Request,

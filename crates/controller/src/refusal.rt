@@ -55,7 +55,7 @@ fn other_priority(first: bool, code: u8) -> bool
 }
 
 fn against_mask(mask: u16, code: u8, c: u8) -> bool
-    requires { ⌜ c ≤ 16 ⌝ }
+    requires { ⌜ c ≤ 15 ⌝ }
     ensures { λ r. ⌜ r ≡ againstMask mask code c ⌝ }
 {
     (1 <= c) & other_priority(high(mask, c), code)

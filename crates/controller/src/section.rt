@@ -7,7 +7,7 @@ ghost use Rattle.controller.specs.Settings.{high};
 ghost use mathlib.Core.Path.{_≡_};
 
 pub(crate) fn high(mask: u16, c: u8) -> bool
-    requires { ⌜ c ≤ 16 ⌝ }
+    requires { ⌜ c ≤ 15 ⌝ }
     ensures { λ r. ⌜ r ≡ high mask c ⌝ }
 {
     if c == 0 {
@@ -30,7 +30,7 @@ fn degrade_code(first: bool) -> u8
 }
 
 pub(crate) fn condition(mask: u16, c: u8, x: u8) -> Request
-    requires { ⌜ c ≤ 16 ⌝ }
+    requires { ⌜ c ≤ 15 ⌝ }
     ensures { λ r. ⌜ r ≡ condition mask c x ⌝ }
 {
     let first = high(mask, c);

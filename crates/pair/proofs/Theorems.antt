@@ -15,6 +15,8 @@ use Rattle.pair.specs.declared.Decoded.the-variants as decoded
 use Rattle.pair.specs.declared.Encoded.the-variants as encoded
 use Rattle.pair.proofs.Coding.{faults-counted, pair-back, record-back, encodable-exact}
 use Rattle.pair.proofs.Ranks.{rowAt, row-rank, usable-row, fail-outranks}
+use Rattle.pair.proofs.sections_fit.Kinds as sections-fit-kinds
+use Rattle.pair.proofs.sections_fit.Reads as sections-fit
 use Rattle.pair.proofs.decode.Kinds as decode-kinds
 use Rattle.pair.proofs.decode.Reads as decode
 use Rattle.pair.proofs.encode.Kinds as encode-kinds
@@ -62,6 +64,9 @@ fail-right = fail-outranks
 
 -- Two answers that the promise of a public function allows are equal. (`Post` is the function's `ensures`, as the checker
 -- reads it off the source.)
+sections-fit-unique : OneAnswer 0 sections-fit-kinds.ps sections-fit-kinds.r sections-fit.Post
+sections-fit-unique κs args x y s t p q = one-value p q
+
 decode-unique : OneAnswer 0 decode-kinds.ps decode-kinds.r decode.Post
 decode-unique κs args x y s t p q = one-case p q
 
