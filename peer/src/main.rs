@@ -12,6 +12,7 @@
 //! The two are compared by what they print. Where they differ, neither has
 //! precedence: the paper decides which one is wrong.
 
+mod controller;
 mod pair;
 mod sequences;
 

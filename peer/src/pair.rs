@@ -66,42 +66,48 @@ pub enum Received {
     Marked(Mark),
 }
 
-/// The request codes that the paper's table uses. Code 1101 is one kind here
-/// although it has two rows there: what parts the rows is the channel.
+/// The requests that the paper's table uses, under their codes. Code 1101 is one
+/// kind here although it has two rows there: what parts the rows is the channel.
 #[derive(Clone, Copy, Debug, PartialEq, Eq)]
-enum Request {
-    Lockout,
-    ForcedSwitch,
-    SignalFailHigh,
-    SignalFailLow,
-    SignalDegradeHigh,
-    SignalDegradeLow,
-    ManualSwitch,
-    WaitToRestore,
-    Reverse,
-    Nothing,
+#[repr(u8)]
+pub(crate) enum Request {
+    Lockout = 0b1111,
+    ForcedSwitch = 0b1110,
+    SignalFailHigh = 0b1101,
+    SignalFailLow = 0b1100,
+    SignalDegradeHigh = 0b1011,
+    SignalDegradeLow = 0b1010,
+    ManualSwitch = 0b1000,
+    WaitToRestore = 0b0110,
+    Reverse = 0b0010,
+    Nothing = 0b0000,
 }
 
 impl Request {
+    const ALL: [Self; 10] = [
+        Self::Lockout,
+        Self::ForcedSwitch,
+        Self::SignalFailHigh,
+        Self::SignalFailLow,
+        Self::SignalDegradeHigh,
+        Self::SignalDegradeLow,
+        Self::ManualSwitch,
+        Self::WaitToRestore,
+        Self::Reverse,
+        Self::Nothing,
+    ];
+
     /// Takes the whole byte, so that a code of more than four bits is none.
     fn from_code(code: u8) -> Option<Self> {
-        Some(match code {
-            0b1111 => Self::Lockout,
-            0b1110 => Self::ForcedSwitch,
-            0b1101 => Self::SignalFailHigh,
-            0b1100 => Self::SignalFailLow,
-            0b1011 => Self::SignalDegradeHigh,
-            0b1010 => Self::SignalDegradeLow,
-            0b1000 => Self::ManualSwitch,
-            0b0110 => Self::WaitToRestore,
-            0b0010 => Self::Reverse,
-            0b0000 => Self::Nothing,
-            _ => return None,
-        })
+        Self::ALL.into_iter().find(|request| request.code() == code)
+    }
+
+    pub(crate) fn code(self) -> u8 {
+        self as u8
     }
 
     /// The channels the request may name in a group of `n` sections.
-    fn channels(self, n: u8) -> RangeInclusive<u8> {
+    pub(crate) fn channels(self, n: u8) -> RangeInclusive<u8> {
         match self {
             Self::Lockout | Self::Nothing => 0..=0,
             // Protection is always coded as a high priority section (paper: "One
@@ -162,18 +168,23 @@ pub fn encode(n: u8, record: Record) -> Result<[u8; 2], Refusal> {
     if !channels.contains(&record.channel) || record.bridged > n {
         return Err(Refusal::Record);
     }
+    Ok(pack(record))
+}
+
+/// The bytes of a record that is known to stand in the table.
+pub(crate) fn pack(record: Record) -> [u8; 2] {
     let line = if record.remote_defect {
         LINE_REMOTE_DEFECT
     } else {
         LINE_GOOD
     };
-    Ok([
+    [
         (record.code << 4) | record.channel,
         (record.bridged << 4) | ONE_TO_N | line,
-    ])
+    ]
 }
 
-fn check_sections(n: u8) -> Result<(), Refusal> {
+pub(crate) fn check_sections(n: u8) -> Result<(), Refusal> {
     if (1..=MOST_SECTIONS).contains(&n) {
         Ok(())
     } else {
@@ -181,8 +192,9 @@ fn check_sections(n: u8) -> Result<(), Refusal> {
     }
 }
 
-/// The order of the checks is the paper's: the first that fails is the mark.
-fn read(n: u8, k1: u8, k2: u8) -> Result<Record, Mark> {
+/// Reads a pair in a group whose size is known to be one. The order of the
+/// checks is the paper's: the first that fails is the mark.
+pub(crate) fn read(n: u8, k1: u8, k2: u8) -> Result<Record, Mark> {
     if k2 & ONE_TO_N == 0 {
         return Err(Mark::BitFive);
     }
@@ -191,21 +203,29 @@ fn read(n: u8, k1: u8, k2: u8) -> Result<Record, Mark> {
         LINE_REMOTE_DEFECT => true,
         _ => return Err(Mark::LineBits),
     };
-    let (code, channel) = nibbles(k1);
-    let request = Request::from_code(code).ok_or(Mark::Code)?;
-    if !request.channels(n).contains(&channel) {
-        return Err(Mark::Channel);
-    }
+    let (request, channel) = read_k1(n, k1)?;
     let (bridged, _) = nibbles(k2);
     if bridged > n {
         return Err(Mark::Bridged);
     }
     Ok(Record {
-        code,
+        code: request.code(),
         channel,
         bridged,
         remote_defect,
     })
+}
+
+/// The part of [`read`] that needs no K2: a controller remembers only the K1 of
+/// the pair it sent.
+pub(crate) fn read_k1(n: u8, k1: u8) -> Result<(Request, u8), Mark> {
+    let (code, channel) = nibbles(k1);
+    let request = Request::from_code(code).ok_or(Mark::Code)?;
+    if request.channels(n).contains(&channel) {
+        Ok((request, channel))
+    } else {
+        Err(Mark::Channel)
+    }
 }
 
 fn nibbles(byte: u8) -> (u8, u8) {

@@ -1,8 +1,10 @@
 // The coder over every byte: what each K1 and each K2 decodes to, and how many pairs and records come to each answer.
-use crate::text::put;
-use crate::text::put_digit;
-use crate::text::put_number;
-use crate::text::put_text;
+use crate::text::print;
+use crate::text::print_byte;
+use crate::text::print_digit;
+use crate::text::print_labelled;
+use crate::text::print_list;
+use crate::text::print_number;
 use pair::Decoded;
 use pair::Encoded;
 use pair::Pair;
@@ -16,28 +18,26 @@ struct Grid {
     of_k1: bool,
 }
 
-fn put_rank(page: &mut [u8], at: usize, r: u8) -> usize {
-    let end = put_text(page, at, b"  ");
+fn print_rank(r: u8) {
     if r < 10 {
-        let end = put(page, end, b' ');
-        put_number(page, end, r as u64)
+        print_labelled(b"   ", r as u64);
     } else {
-        put_number(page, end, r as u64)
+        print_labelled(b"  ", r as u64);
     }
 }
 
-fn put_mark(page: &mut [u8], at: usize, letter: u8, m: u8) -> usize {
-    let end = put_text(page, at, b"  ");
-    let end = put(page, end, letter);
-    put_digit(page, end, m)
+fn print_mark(letter: u8, m: u8) {
+    print(b"  ");
+    print_byte(letter);
+    print_digit(m);
 }
 
 // A cell is four wide: the rank, or m and the mark.
-fn put_cell(page: &mut [u8], at: usize, d: Decoded) -> usize {
+fn print_cell(d: Decoded) {
     match d {
-        Decoded::Usable(p) => put_rank(page, at, rank(p.code, p.channel)),
-        Decoded::Marked(m) => put_mark(page, at, b'm', m),
-        Decoded::Refused(k) => put_mark(page, at, b'r', k),
+        Decoded::Usable(p) => print_rank(rank(p.code, p.channel)),
+        Decoded::Marked(m) => print_mark(b'm', m),
+        Decoded::Refused(k) => print_mark(b'r', k),
     }
 }
 
@@ -49,56 +49,50 @@ fn decode_in(g: Grid, byte: u8) -> Decoded {
     }
 }
 
-fn put_row(page: &mut [u8], at: usize, g: Grid, high: u8) -> usize {
-    let mut end = put_digit(page, at, high);
-    end = put(page, end, b'x');
+fn print_row(g: Grid, high: u8) {
+    print_digit(high);
+    print_byte(b'x');
     let mut low: u8 = 0;
     while low < 16 {
-        end = put_cell(page, end, decode_in(g, high % 16 * 16 + low));
+        print_cell(decode_in(g, high % 16 * 16 + low));
         low += 1;
     }
-    put(page, end, b'\n')
+    print_byte(b'\n');
 }
 
-fn put_bytes(page: &mut [u8], at: usize, of_k1: bool) -> usize {
-    if of_k1 {
-        put_text(page, at, b": each K1, with K2 = 08")
+fn print_title(g: Grid) {
+    print_labelled(b"n = ", g.n as u64);
+    if g.of_k1 {
+        print(b": each K1, with K2 = 08");
     } else {
-        put_text(page, at, b": each K2, with K1 = 00")
+        print(b": each K2, with K1 = 00");
     }
+    print(b": rank, or m and the mark\n  ");
 }
 
-fn put_title(page: &mut [u8], at: usize, g: Grid) -> usize {
-    let end = put_text(page, at, b"n = ");
-    let end = put_number(page, end, g.n as u64);
-    let end = put_bytes(page, end, g.of_k1);
-    put_text(page, end, b": rank, or m and the mark\n  ")
-}
-
-fn put_heading(page: &mut [u8], at: usize) -> usize {
-    let mut end = at;
+fn print_heading() {
     let mut low: u8 = 0;
     while low < 16 {
-        end = put_mark(page, end, b'x', low);
+        print_mark(b'x', low);
         low += 1;
     }
-    put(page, end, b'\n')
+    print_byte(b'\n');
 }
 
-fn put_grid(page: &mut [u8], at: usize, g: Grid) -> usize {
-    let mut end = put_title(page, at, g);
-    end = put_heading(page, end);
+fn print_grid(g: Grid) {
+    print_title(g);
+    print_heading();
     let mut high: u8 = 0;
     while high < 16 {
-        end = put_row(page, end, g, high);
+        print_row(g, high);
         high += 1;
     }
-    put(page, end, b'\n')
+    print_byte(b'\n');
 }
 
-fn put_grids(page: &mut [u8], at: usize, n: u8) -> usize {
-    let end = put_grid(page, at, Grid { n, of_k1: true });
-    put_grid(page, end, Grid { n, of_k1: false })
+fn print_grids(n: u8) {
+    print_grid(Grid { n, of_k1: true });
+    print_grid(Grid { n, of_k1: false });
 }
 
 // A count that reaches the end of its type stays there.
@@ -165,51 +159,42 @@ fn count_records(counts: &mut [u32], n: u8) {
     }
 }
 
-fn wide(x: u32) -> u64 {
-    x as u64
+fn print_pairs_of(n: u8) {
+    let mut counts = [0u32; 8];
+    count_pairs(&mut counts, n);
+    print_number(n as u64);
+    print_list(&counts);
+    print_byte(b'\n');
 }
 
-fn put_counts(page: &mut [u8], at: usize, n: u8, counts: &[u32]) -> usize {
-    let mut end = put_number(page, at, n as u64);
-    let mut i = 0;
-    while i < counts.len() {
-        end = put(page, end, b' ');
-        end = put_number(page, end, wide(counts[i]));
-        i += 1;
-    }
-    put(page, end, b'\n')
-}
-
-fn put_pairs(page: &mut [u8], at: usize) -> usize {
-    let mut end = put_text(
-        page,
-        at,
-        b"n, then of all 65536 pairs: refused, marks 1 to 5, usable, given back by encode\n",
-    );
+fn print_pairs() {
+    print(b"n, then of all 65536 pairs: refused, marks 1 to 5, usable, given back by encode\n");
     let mut n: u8 = 0;
     while n < 16 {
-        let mut counts = [0u32; 8];
-        count_pairs(&mut counts, n);
-        end = put_counts(page, end, n, &counts);
+        print_pairs_of(n);
         n += 1;
     }
-    put(page, end, b'\n')
+    print_byte(b'\n');
 }
 
-fn put_records(page: &mut [u8], at: usize) -> usize {
-    let mut end = put_text(
-        page,
-        at,
+fn print_records_of(n: u8) {
+    let mut counts = [0u32; 4];
+    count_records(&mut counts, n);
+    print_number(n as u64);
+    print_list(&counts);
+    print_byte(b'\n');
+}
+
+fn print_records() {
+    print(
         b"n, then of the 11664 records with code, channel and bridged 0 to 17, remote 0 and 1: refused 1, refused 10, encoded, sum of the bytes\n",
     );
     let mut n: u8 = 0;
     while n < 16 {
-        let mut counts = [0u32; 4];
-        count_records(&mut counts, n);
-        end = put_counts(page, end, n, &counts);
+        print_records_of(n);
         n += 1;
     }
-    put(page, end, b'\n')
+    print_byte(b'\n');
 }
 
 fn sum_ranks(sums: &mut [u32]) {
@@ -221,22 +206,18 @@ fn sum_ranks(sums: &mut [u32]) {
     }
 }
 
-fn put_rank_sum(page: &mut [u8], at: usize) -> usize {
+fn print_rank_sum() {
     let mut sums = [0u32; 1];
     sum_ranks(&mut sums);
-    let end = put_text(
-        page,
-        at,
-        b"sum of the ranks over all 65536 codes and channels: ",
-    );
-    let end = put_number(page, end, wide(sums[0]));
-    put(page, end, b'\n')
+    print(b"sum of the ranks over all 65536 codes and channels:");
+    print_list(&sums);
+    print_byte(b'\n');
 }
 
-pub(crate) fn put_tables(page: &mut [u8], at: usize) -> usize {
-    let end = put_grids(page, at, 2);
-    let end = put_grids(page, end, 14);
-    let end = put_pairs(page, end);
-    let end = put_records(page, end);
-    put_rank_sum(page, end)
+pub(crate) fn print_tables() {
+    print_grids(2);
+    print_grids(14);
+    print_pairs();
+    print_records();
+    print_rank_sum();
 }

@@ -1,10 +1,15 @@
 // Prints what the paper's tables and sequences come to, for comparison with the stored output and with the peer.
 mod coder;
+mod refusals;
+mod steps;
+mod table;
 mod text;
+mod walks;
 
 fn main() {
-    let mut page = io::large_buffer();
-    let out: &mut [u8] = &mut page;
-    let end = coder::put_tables(out, 0);
-    text::print(out, end);
+    coder::print_tables();
+    steps::print_sequences();
+    table::print_table();
+    refusals::print_refusals();
+    walks::print_walks();
 }

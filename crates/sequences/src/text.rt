@@ -1,37 +1,47 @@
-// Text in a lent page: each function answers the place behind what it put. A page that is full takes no more.
+// Text on standard output.
 
-pub(crate) fn put(page: &mut [u8], at: usize, b: u8) -> usize {
-    if at < page.len() {
-        page[at] = b;
-        at + 1
-    } else {
-        at
-    }
+pub(crate) fn print(s: &[u8]) {
+    io::write_all(1, s);
 }
 
-pub(crate) fn put_text(page: &mut [u8], at: usize, s: &[u8]) -> usize {
-    let mut end = at;
-    let mut i = 0;
-    while i < s.len() {
-        end = put(page, end, s[i]);
-        i += 1;
-    }
-    end
+pub(crate) fn print_byte(b: u8) {
+    io::write_all(1, &[b]);
 }
 
-pub(crate) fn put_number(page: &mut [u8], at: usize, v: u64) -> usize {
-    let mut digits = [0u8; 20];
-    let n = io::decimal(v, &mut digits);
-    put_text(page, at, &digits[..n])
+pub(crate) fn print_number(v: u64) {
+    io::print_decimal(1, v);
 }
 
-pub(crate) fn put_digit(page: &mut [u8], at: usize, v: u8) -> usize {
+pub(crate) fn print_digit(v: u8) {
     let d = v % 16;
-    put(page, at, if d < 10 { b'0' + d } else { b'A' - 10 + d })
+    print_byte(if d < 10 { b'0' + d } else { b'A' - 10 + d });
 }
 
-pub(crate) fn print(page: &[u8], end: usize) {
-    if end <= page.len() {
-        io::write_all(1, &page[..end]);
+pub(crate) fn print_hex(b: u8) {
+    print_digit(b / 16);
+    print_digit(b);
+}
+
+pub(crate) fn print_pair(k1: u8, k2: u8) {
+    print_hex(k1);
+    print_byte(b' ');
+    print_hex(k2);
+}
+
+pub(crate) fn print_labelled(label: &[u8], v: u64) {
+    print(label);
+    print_number(v);
+}
+
+fn wide(x: u32) -> u64 {
+    x as u64
+}
+
+// Each number behind a space.
+pub(crate) fn print_list(values: &[u32]) {
+    let mut i = 0;
+    while i < values.len() {
+        print_labelled(b" ", wide(values[i]));
+        i += 1;
     }
 }

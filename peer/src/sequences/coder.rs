@@ -1,6 +1,4 @@
-//! The tables of `peer sequences`: the byte pair over inputs that leave no
-//! value out, in a fixed text that can be compared byte for byte with the
-//! text of another reading.
+//! The tables of the byte pair, over inputs that leave no value out.
 
 use crate::pair::{decode, encode, rank, Mark, Received, Record, Refusal};
 use std::io::{self, Write};
@@ -190,23 +188,6 @@ fn write_rank_sum(out: &mut impl Write) -> io::Result<()> {
 #[cfg(test)]
 mod tests {
     use super::*;
-
-    fn printed() -> String {
-        let mut out = Vec::new();
-        write(&mut out).expect("memory takes every write");
-        String::from_utf8(out).expect("the tables are text")
-    }
-
-    /// What a comparison byte for byte would trip over first.
-    #[test]
-    fn the_text_has_its_fixed_shape() {
-        let text = printed();
-        assert!(text.is_ascii() && text.ends_with('\n') && !text.ends_with("\n\n"));
-        assert!(text.lines().all(|line| line.trim_end() == line));
-        let grids = 4 * (1 + 1 + 16 + 1);
-        let counts = (1 + 16 + 1) + (1 + 16 + 1) + 1;
-        assert_eq!(text.lines().count(), grids + counts);
-    }
 
     #[test]
     fn every_pair_and_record_is_counted_once() {

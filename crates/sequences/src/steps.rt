@@ -1,0 +1,198 @@
+// Steps of one controller: the paper's sequences, and some with commands, a line a step.
+use crate::text::print;
+use crate::text::print_byte;
+use crate::text::print_digit;
+use crate::text::print_labelled;
+use crate::text::print_list;
+use crate::text::print_number;
+use crate::text::print_pair;
+use controller::Controller;
+use controller::Made;
+use controller::Outcome;
+
+pub(crate) fn start(n: u8, mask: u16, w: u16) -> Controller {
+    match Controller::fresh(n, mask, w) {
+        Made::Fresh(s) => s,
+        Made::Refused(_) => Controller {
+            n: 0,
+            mask: 0,
+            w: 0,
+            k1: 0,
+            k2: 0,
+            sent: 0,
+            left: 0,
+        },
+    }
+}
+
+// The name of a sequence and its settings; the record to begin with.
+fn title(name: &[u8], n: u8, mask: u16, w: u16) -> Controller {
+    print(name);
+    print_labelled(b": n ", n as u64);
+    print_labelled(b" mask ", mask as u64);
+    print_labelled(b" W ", w as u64);
+    print_byte(b'\n');
+    start(n, mask, w)
+}
+
+fn print_conditions(conditions: &[u8]) {
+    let mut i = 0;
+    while i < conditions.len() {
+        print_digit(conditions[i]);
+        i += 1;
+    }
+}
+
+fn print_outcome(o: Outcome) {
+    print_number(o.refusal as u64);
+    print_byte(b' ');
+    print_pair(o.k1, o.k2);
+    print_list(
+        &[
+            o.bridge as u32,
+            o.selector as u32,
+            o.mark as u32,
+            o.fate as u32,
+        ],
+    );
+    print_byte(b'\n');
+}
+
+fn command(s: Controller, k1: u8, k2: u8, conditions: &[u8], order: u8, c: u8) -> Controller {
+    print_pair(k1, k2);
+    print_byte(b' ');
+    print_conditions(conditions);
+    print_list(&[order as u32, c as u32]);
+    print(b": ");
+    let o = s.step(k1, k2, conditions, order, c);
+    print_outcome(o);
+    o.controller
+}
+
+fn receive(s: Controller, k1: u8, k2: u8, conditions: &[u8]) -> Controller {
+    command(s, k1, k2, conditions, 0, 0)
+}
+
+fn print_p1() {
+    let s = title(b"P1", 2, 0, 3);
+    receive(s, 0x00, 0x08, &[0, 0, 0]);
+}
+
+fn p2_p3(s: Controller) -> Controller {
+    let s = receive(s, 0x00, 0x08, &[0, 0, 1]);
+    receive(s, 0x22, 0x28, &[0, 0, 1])
+}
+
+fn print_p9() {
+    let s = p2_p3(title(b"P2 P3 P8 P9", 2, 0, 3));
+    let s = receive(s, 0x22, 0x28, &[0, 0, 0]);
+    let s = receive(s, 0x22, 0x28, &[0, 0, 0]);
+    let s = receive(s, 0x22, 0x28, &[0, 0, 0]);
+    receive(s, 0x22, 0x28, &[0, 0, 0]);
+}
+
+fn print_p6() {
+    let s = title(b"P4 P5 P6", 2, 0, 3);
+    let s = receive(s, 0xA2, 0x08, &[0, 0, 0]);
+    let s = receive(s, 0xA2, 0x28, &[0, 0, 0]);
+    receive(s, 0xA2, 0x28, &[0, 2, 0]);
+}
+
+fn print_p7() {
+    let s = p2_p3(title(b"P2 P3 P7", 2, 0, 3));
+    receive(s, 0xC1, 0x08, &[0, 0, 1]);
+}
+
+fn print_p10() {
+    let s = title(b"P10", 2, 0, 3);
+    command(s, 0x00, 0x08, &[2, 0, 0], 3, 1);
+}
+
+fn print_p11(mask: u16) {
+    let s = title(b"P11", 2, mask, 3);
+    receive(s, 0x00, 0x08, &[0, 2, 2]);
+}
+
+fn print_p12() {
+    let s = title(b"P2 P12", 2, 0, 3);
+    let s = receive(s, 0x00, 0x08, &[0, 0, 1]);
+    receive(s, 0x11, 0x08, &[0, 0, 1]);
+}
+
+fn print_p13() {
+    let s = title(b"P13", 2, 0, 3);
+    let s = receive(s, 0x00, 0x08, &[0, 0, 2]);
+    receive(s, 0x00, 0x08, &[0, 2, 2]);
+}
+
+fn print_no_wait() {
+    let s = p2_p3(title(b"no wait", 2, 0, 0));
+    receive(s, 0x22, 0x28, &[0, 0, 0]);
+}
+
+// Section 14 failed, degraded, good; then a channel that no section has, and one command.
+fn print_channel_14() {
+    let s = title(b"channel 14", 14, 8192, 3);
+    let s = receive(
+        s,
+        0x00,
+        0x08,
+        &[0, 0, 0, 0, 0, 0, 0, 0, 0, 0, 0, 0, 0, 0, 2],
+    );
+    let s = receive(
+        s,
+        0x2E,
+        0xE8,
+        &[0, 0, 0, 0, 0, 0, 0, 0, 0, 0, 0, 0, 0, 0, 2],
+    );
+    let s = receive(
+        s,
+        0x2E,
+        0xE8,
+        &[0, 0, 0, 0, 0, 0, 0, 0, 0, 0, 0, 0, 0, 0, 1],
+    );
+    let s = receive(s, 0x2E, 0xE8, &[0u8; 15]);
+    let s = receive(s, 0xAF, 0x08, &[0u8; 15]);
+    let s = receive(s, 0xEE, 0xE8, &[0u8; 15]);
+    command(s, 0x00, 0x08, &[0u8; 15], 4, 14);
+}
+
+fn print_commands() {
+    let s = title(b"commands", 2, 0, 3);
+    let s = command(s, 0x00, 0x08, &[0, 0, 0], 4, 2);
+    let s = receive(s, 0x22, 0x28, &[0, 0, 0]);
+    let s = command(s, 0x22, 0x28, &[0, 0, 0], 4, 1);
+    let s = command(s, 0x22, 0x28, &[0, 0, 0], 3, 1);
+    let s = command(s, 0x21, 0x18, &[0, 0, 0], 3, 1);
+    let s = command(s, 0x21, 0x18, &[0, 0, 0], 2, 0);
+    let s = receive(s, 0x20, 0x08, &[0, 0, 0]);
+    let s = command(s, 0x20, 0x08, &[0, 0, 0], 1, 0);
+    receive(s, 0x00, 0x08, &[0, 0, 0]);
+}
+
+fn print_clear() {
+    let s = title(b"clear ends the wait", 2, 0, 3);
+    let s = receive(s, 0x00, 0x08, &[0, 1, 0]);
+    let s = receive(s, 0x21, 0x18, &[0, 0, 0]);
+    let s = command(s, 0x21, 0x18, &[0, 0, 0], 1, 0);
+    receive(s, 0x21, 0x18, &[0, 0, 0]);
+}
+
+pub(crate) fn print_sequences() {
+    print(
+        b"\nthe paper's sequences, a line per step: received, conditions, command, channel: refusal, K1 K2, bridge, selector, mark, fate\n",
+    );
+    print_p1();
+    print_p9();
+    print_p6();
+    print_p7();
+    print_p10();
+    print_p11(0);
+    print_p11(2);
+    print_p12();
+    print_p13();
+    print_no_wait();
+    print_channel_14();
+    print_commands();
+    print_clear();
+}

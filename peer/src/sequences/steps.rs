@@ -1,0 +1,231 @@
+//! The sequences that the paper spells out for the controller, and a few more
+//! in the same manner, step by step (paper: "Sequences on both sides").
+
+use super::{fresh, Given};
+use crate::controller::Answer;
+use std::io::{self, Write};
+
+/// Steps that follow one another from a fresh record.
+struct Sequence {
+    name: &'static str,
+    n: u8,
+    mask: u16,
+    w: u16,
+    steps: &'static [Given<'static>],
+}
+
+const fn of_two(
+    name: &'static str,
+    mask: u16,
+    w: u16,
+    steps: &'static [Given<'static>],
+) -> Sequence {
+    Sequence {
+        name,
+        n: 2,
+        mask,
+        w,
+        steps,
+    }
+}
+
+const GOOD: &[u8] = &[0, 0, 0];
+const DEGRADED_2: &[u8] = &[0, 0, 1];
+
+const fn section_14(condition: u8) -> [u8; 15] {
+    let mut conditions = [0; 15];
+    conditions[14] = condition;
+    conditions
+}
+
+const GOOD_OF_14: &[u8] = &section_14(0);
+const DEGRADED_14: &[u8] = &section_14(1);
+const FAILED_14: &[u8] = &section_14(2);
+
+const SEQUENCES: [Sequence; 13] = [
+    of_two("P1", 0, 3, &[Given::new(0x00, 0x08, GOOD)]),
+    of_two(
+        "P2 P3 P8 P9",
+        0,
+        3,
+        &[
+            Given::new(0x00, 0x08, DEGRADED_2),
+            Given::new(0x22, 0x28, DEGRADED_2),
+            Given::new(0x22, 0x28, GOOD),
+            Given::new(0x22, 0x28, GOOD),
+            Given::new(0x22, 0x28, GOOD),
+            Given::new(0x22, 0x28, GOOD),
+        ],
+    ),
+    of_two(
+        "P4 P5 P6",
+        0,
+        3,
+        &[
+            Given::new(0xA2, 0x08, GOOD),
+            Given::new(0xA2, 0x28, GOOD),
+            Given::new(0xA2, 0x28, &[0, 2, 0]),
+        ],
+    ),
+    of_two(
+        "P2 P3 P7",
+        0,
+        3,
+        &[
+            Given::new(0x00, 0x08, DEGRADED_2),
+            Given::new(0x22, 0x28, DEGRADED_2),
+            Given::new(0xC1, 0x08, DEGRADED_2),
+        ],
+    ),
+    of_two(
+        "P10",
+        0,
+        3,
+        &[Given::new(0x00, 0x08, &[2, 0, 0]).commanded(3, 1)],
+    ),
+    of_two("P11", 0, 3, &[Given::new(0x00, 0x08, &[0, 2, 2])]),
+    of_two("P11", 2, 3, &[Given::new(0x00, 0x08, &[0, 2, 2])]),
+    of_two(
+        "P2 P12",
+        0,
+        3,
+        &[
+            Given::new(0x00, 0x08, DEGRADED_2),
+            Given::new(0x11, 0x08, DEGRADED_2),
+        ],
+    ),
+    of_two(
+        "P13",
+        0,
+        3,
+        &[
+            Given::new(0x00, 0x08, &[0, 0, 2]),
+            Given::new(0x00, 0x08, &[0, 2, 2]),
+        ],
+    ),
+    of_two(
+        "no wait",
+        0,
+        0,
+        &[
+            Given::new(0x00, 0x08, DEGRADED_2),
+            Given::new(0x22, 0x28, DEGRADED_2),
+            Given::new(0x22, 0x28, GOOD),
+        ],
+    ),
+    Sequence {
+        name: "channel 14",
+        n: 14,
+        mask: 1 << 13,
+        w: 3,
+        steps: &[
+            Given::new(0x00, 0x08, FAILED_14),
+            Given::new(0x2E, 0xE8, FAILED_14),
+            Given::new(0x2E, 0xE8, DEGRADED_14),
+            Given::new(0x2E, 0xE8, GOOD_OF_14),
+            Given::new(0xAF, 0x08, GOOD_OF_14),
+            Given::new(0xEE, 0xE8, GOOD_OF_14),
+            Given::new(0x00, 0x08, GOOD_OF_14).commanded(4, 14),
+        ],
+    },
+    of_two(
+        "commands",
+        0,
+        3,
+        &[
+            Given::new(0x00, 0x08, GOOD).commanded(4, 2),
+            Given::new(0x22, 0x28, GOOD),
+            Given::new(0x22, 0x28, GOOD).commanded(4, 1),
+            Given::new(0x22, 0x28, GOOD).commanded(3, 1),
+            Given::new(0x21, 0x18, GOOD).commanded(3, 1),
+            Given::new(0x21, 0x18, GOOD).commanded(2, 0),
+            Given::new(0x20, 0x08, GOOD),
+            Given::new(0x20, 0x08, GOOD).commanded(1, 0),
+            Given::new(0x00, 0x08, GOOD),
+        ],
+    ),
+    of_two(
+        "clear ends the wait",
+        0,
+        3,
+        &[
+            Given::new(0x00, 0x08, &[0, 1, 0]),
+            Given::new(0x21, 0x18, GOOD),
+            Given::new(0x21, 0x18, GOOD).commanded(1, 0),
+            Given::new(0x21, 0x18, GOOD),
+        ],
+    ),
+];
+
+pub(super) fn write(out: &mut impl Write) -> io::Result<()> {
+    writeln!(
+        out,
+        "the paper's sequences, a line per step: received, conditions, command, channel: \
+         refusal, K1 K2, bridge, selector, mark, fate"
+    )?;
+    SEQUENCES
+        .iter()
+        .try_for_each(|sequence| write_sequence(out, sequence))
+}
+
+fn write_sequence(out: &mut impl Write, sequence: &Sequence) -> io::Result<()> {
+    let Sequence {
+        name, n, mask, w, ..
+    } = *sequence;
+    writeln!(out, "{name}: n {n} mask {mask} W {w}")?;
+    let mut record = fresh(n, mask, w);
+    for &given in sequence.steps {
+        let answer = given.step(record);
+        write_step(out, given, &answer)?;
+        record = answer.record;
+    }
+    Ok(())
+}
+
+fn write_step(out: &mut impl Write, given: Given, answer: &Answer) -> io::Result<()> {
+    let [k1, k2] = given.received;
+    write!(out, "{k1:02X} {k2:02X} ")?;
+    for condition in given.conditions {
+        write!(out, "{condition}")?;
+    }
+    write!(out, " {} {}: ", given.command, given.channel)?;
+    writeln!(
+        out,
+        "{} {:02X} {:02X} {} {} {} {}",
+        answer.refusal,
+        answer.k1,
+        answer.k2,
+        answer.bridge,
+        answer.selector,
+        answer.mark,
+        answer.fate
+    )
+}
+
+#[cfg(test)]
+mod tests {
+    use super::super::tests::printed;
+    use super::*;
+
+    #[test]
+    fn titles_and_steps_have_their_form() {
+        let text = printed(write);
+        for lines in [
+            "P1: n 2 mask 0 W 3\n00 08 000 0 0: 0 00 08 0 0 0 0",
+            "P10: n 2 mask 0 W 3\n00 08 200 3 1: 0 D0 08 0 0 0 2",
+            "channel 14: n 14 mask 8192 W 3\n00 08 000000000000002 0 0: 0 DE 08 0 0 0 0",
+            "AF 08 000000000000000 0 0: 0 6E E8 14 14 4 0",
+        ] {
+            assert!(text.contains(&format!("\n{lines}\n")), "{lines}");
+        }
+    }
+
+    /// P8 and P9: the same input four times over, told apart by the wait alone.
+    #[test]
+    fn each_step_starts_where_the_one_before_ended() {
+        let text = printed(write);
+        let waiting = "22 28 000 0 0: 0 62 28 2 2 0 0\n";
+        let ended = "22 28 000 0 0: 0 00 28 2 0 0 0\n";
+        assert!(text.contains(&[waiting, waiting, waiting, ended].concat()));
+    }
+}

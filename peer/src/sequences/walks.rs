@@ -1,0 +1,246 @@
+//! Long walks of the controller over drawn input, a line for each size of group.
+//!
+//! The draws can be repeated anywhere, and the sum takes in all that the steps
+//! answer: readings that differ in one step are all but sure to differ in a sum.
+
+use super::{fresh, numbers, Given};
+use crate::controller::{Answer, Record};
+use std::io::{self, Write};
+
+const STEPS: u32 = 20_000;
+
+/// A prime, so that no multiplication makes two unequal sums equal.
+const SUM_BELOW: u32 = 65_521;
+
+/// The generator with multiplier 48271 over the prime 2^31 - 1.
+struct Draws(u64);
+
+impl Draws {
+    fn below(&mut self, bound: u16) -> u16 {
+        self.0 = self.0 * 48_271 % 2_147_483_647;
+        (self.0 % u64::from(bound)) as u16
+    }
+
+    fn byte_below(&mut self, bound: u8) -> u8 {
+        self.below(u16::from(bound)) as u8
+    }
+}
+
+/// A walk between two steps.
+struct Walk {
+    draws: Draws,
+    record: Record,
+}
+
+impl Walk {
+    fn start(n: u8) -> Self {
+        let mut draws = Draws(u64::from(n));
+        let mask = draws.below(1 << n);
+        let w = draws.below(4);
+        Self {
+            draws,
+            record: fresh(n, mask, w),
+        }
+    }
+
+    /// Hands what was drawn and what the step answered to `see`.
+    fn step(&mut self, see: impl FnOnce(Given, &Answer)) {
+        let [k1, k2] = self.draw_pair();
+        let conditions = self.draw_conditions();
+        let (command, channel) = self.draw_command();
+        let given = Given::new(k1, k2, &conditions).commanded(command, channel);
+        let answer = given.step(self.record);
+        self.record = answer.record;
+        see(given, &answer);
+    }
+
+    /// Channels go one past the group, and the line bits are now and then ones
+    /// that mean nothing, so that every mark but that of bit 5 comes up.
+    fn draw_pair(&mut self) -> [u8; 2] {
+        let past = self.record.n + 2;
+        let code = self.draws.byte_below(16);
+        let channel = self.draws.byte_below(past);
+        let bridged = self.draws.byte_below(past);
+        let line = match self.draws.byte_below(8) {
+            line @ (6 | 7) => line,
+            _ => 0,
+        };
+        [code * 16 + channel, bridged * 16 + 8 + line]
+    }
+
+    /// Rare enough that a group has one or no fault at most times.
+    fn draw_conditions(&mut self) -> Vec<u8> {
+        let sections = self.record.n + 1;
+        let draw = |_| match self.draws.byte_below(8 * sections) {
+            condition @ (1 | 2) => condition,
+            _ => 0,
+        };
+        (0..sections).map(draw).collect()
+    }
+
+    /// The channel may be one past the group: those steps are refused.
+    fn draw_command(&mut self) -> (u8, u8) {
+        match self.draws.byte_below(16) {
+            command @ (1 | 2) => (command, 0),
+            command @ (3 | 4) => (command, self.draws.byte_below(self.record.n + 1) + 1),
+            _ => (0, 0),
+        }
+    }
+}
+
+/// What a walk comes to.
+#[derive(Default)]
+struct Counts {
+    refused: u32,
+    taken: u32,
+    denied: u32,
+    marked: u32,
+    sum: u32,
+}
+
+impl Counts {
+    fn over_walk(n: u8) -> (Record, Self) {
+        let mut walk = Walk::start(n);
+        let start = walk.record;
+        let mut counts = Self::default();
+        for _ in 0..STEPS {
+            walk.step(|_, answer| counts.add(answer));
+        }
+        (start, counts)
+    }
+
+    fn add(&mut self, answer: &Answer) {
+        self.refused += u32::from(answer.refusal != 0);
+        self.taken += u32::from(answer.fate == 1);
+        self.denied += u32::from(answer.fate == 2);
+        self.marked += u32::from(answer.mark != 0);
+        let Record {
+            accepted: [k1, k2],
+            sent,
+            left,
+            ..
+        } = answer.record;
+        let bytes = numbers(answer).into_iter().chain([k1, k2, sent]);
+        for number in bytes.map(u32::from).chain([u32::from(left)]) {
+            self.sum = (self.sum * 31 + number) % SUM_BELOW;
+        }
+    }
+}
+
+pub(super) fn write(out: &mut impl Write) -> io::Result<()> {
+    writeln!(
+        out,
+        "walks of {STEPS} steps: n mask W: refused, taken, denied, marked, sum"
+    )?;
+    for n in 1..=14 {
+        let (start, counts) = Counts::over_walk(n);
+        writeln!(
+            out,
+            "{n} {} {}: {} {} {} {} {}",
+            start.mask,
+            start.w,
+            counts.refused,
+            counts.taken,
+            counts.denied,
+            counts.marked,
+            counts.sum
+        )?;
+    }
+    Ok(())
+}
+
+#[cfg(test)]
+mod tests {
+    use super::*;
+    use crate::pair::{decode, Received};
+    use std::collections::BTreeSet;
+
+    fn over_all_walks(mut see: impl FnMut(Record, Given, &Answer)) {
+        for n in 1..=14 {
+            let mut walk = Walk::start(n);
+            for _ in 0..STEPS {
+                let before = walk.record;
+                walk.step(|given, answer| see(before, given, answer));
+            }
+        }
+    }
+
+    /// The C++ standard gives this number as a check of its `minstd_rand`, the
+    /// same generator, started at 1.
+    #[test]
+    fn the_ten_thousandth_draw_is_the_known_one() {
+        let mut draws = Draws(1);
+        for _ in 0..10_000 {
+            draws.below(1);
+        }
+        assert_eq!(draws.0, 399_268_537);
+    }
+
+    /// Every record a step answers is good for the next: a step is refused only
+    /// for what was drawn, and only a command's channel is ever drawn wrong.
+    #[test]
+    fn only_a_channel_past_the_group_is_refused() {
+        over_all_walks(|before, given, answer| {
+            if given.channel > before.n {
+                assert_eq!(numbers(answer), [7, 0, 0, 0, 0, 0, 0]);
+                assert_eq!(answer.record, before);
+            } else {
+                assert_eq!(answer.refusal, 0);
+            }
+        });
+    }
+
+    #[test]
+    fn what_is_sent_can_be_read_at_the_other_end() {
+        over_all_walks(|before, _, answer| {
+            if answer.refusal != 0 {
+                return;
+            }
+            let Ok(Received::Usable(read)) = decode(before.n, answer.k1, answer.k2) else {
+                panic!("{answer:?}");
+            };
+            assert!(!read.remote_defect);
+            assert_eq!(read.bridged, answer.bridge);
+            assert_eq!(answer.record.sent, answer.k1);
+        });
+    }
+
+    /// A comparison over walks is worth no more than what the walks come by.
+    #[test]
+    fn the_walks_come_by_every_request_mark_and_fate() {
+        let [mut codes, mut marks, mut fates] = [const { BTreeSet::new() }; 3];
+        over_all_walks(|_, _, answer| {
+            codes.insert(answer.k1 >> 4);
+            marks.insert(answer.mark);
+            fates.insert(answer.fate);
+        });
+        assert!(codes.into_iter().eq([0, 2, 6, 8, 10, 11, 12, 13, 14, 15]));
+        assert!(marks.into_iter().eq([0, 2, 3, 4, 5]));
+        assert!(fates.into_iter().eq([0, 1, 2]));
+    }
+
+    #[test]
+    fn the_sum_takes_the_numbers_in_their_order() {
+        let record = Record {
+            accepted: [8, 9],
+            sent: 10,
+            left: 60_000,
+            ..fresh(1, 0, 0)
+        };
+        let answer = Answer {
+            refusal: 1,
+            record,
+            k1: 2,
+            k2: 3,
+            bridge: 4,
+            selector: 5,
+            mark: 6,
+            fate: 7,
+        };
+        let mut counts = Counts::default();
+        counts.add(&answer);
+        let places = [1u128, 2, 3, 4, 5, 6, 7, 8, 9, 10, 60_000];
+        let whole = places.iter().fold(0, |sum, number| sum * 31 + number);
+        assert_eq!(u128::from(counts.sum), whole % 65_521);
+    }
+}
