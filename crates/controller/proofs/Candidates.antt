@@ -1,9 +1,9 @@
 -- Laws of the candidates for the local request.
-use mathlib.Core.Path.{_≡_, refl, sym, ap, _∙_}
+use mathlib.Core.Path.{_≡_, refl}
 use mathlib.Core.Bool.{Bool, true, false}
 use mathlib.Core.List.{List, [], _∷_}
 use mathlib.Core.Logic.{_⊎_, inr}
-use Prim.Native.Nat.{ℕ, suc, _+_, _<_, _≤_}
+use Prim.Native.Nat.{ℕ, _+_, _<_, _≤_}
 use native.Mathlib.Numerals.{add-one}
 use lib.Dec.{eqb}
 use lib.ListN.{length, getD, drop, drop-of-length-le}
@@ -67,9 +67,11 @@ module _ (mask protection : ℕ) (working : List ℕ) (command wait : Request) w
   unfolding localRequest
   local-one = best-one (byRank rankOf) all noRequest
 
-  pub local-above : (x : Request) → OneOf x all → byRank rankOf x (localRequest mask protection working command wait) ≡ false
+  pub local-above : (x : Request) → OneOf x all
+      → byRank rankOf x (localRequest mask protection working command wait) ≡ false
   unfolding localRequest
-  local-above x among = best-above (byRank rankOf) (rank-irreflexive rankOf) (rank-transitive rankOf) all noRequest x (inr among)
+  local-above x among =
+      best-above (byRank rankOf) (rank-irreflexive rankOf) (rank-transitive rankOf) all noRequest x (inr among)
 
   pub local-single : (x : Request) → byRank rankOf x noRequest ≡ true
       → ((y : Request) → OneOf y all → (y ≡ x) ⊎ (byRank rankOf y noRequest ≡ false)) → OneOf x all

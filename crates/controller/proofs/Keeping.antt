@@ -1,17 +1,16 @@
 -- What a step keeps: the settings, and that the record is acceptable. What it sends is a usable pair.
-use mathlib.Core.Path.{_≡_, refl, sym, ap, _∙_}
+use mathlib.Core.Path.{_≡_, refl}
 use mathlib.Core.Bool.{Bool, true, false, _&&_, and-eq-true-iff}
 use mathlib.Core.List.{List, [], _∷_}
-use Prim.Native.Nat.{ℕ, _+_, _*_, _≤_, _<_}
+use Prim.Native.Nat.{ℕ, _+_, _≤_}
 use native.Mathlib.Nat.{add-zero}
 use native.Mathlib.Omega.{arith}
 use lib.Dec.{ltb, leb, eqb}
 use lib.ListN.{length, drop}
-use borrow.Author.Tests.{leb-true, eqb-true, eqb-false, le-leb, eq-eqb, le-ltb}
-use Rattle.basics.specs.Choice.{if_then_else_}
+use borrow.Author.Tests.{leb-true, eqb-true, eqb-false, le-leb, le-ltb, ne-eqb}
 use Rattle.basics.proofs.Table.{every}
-use Rattle.pair.specs.Request.{requests, carries}
-use Rattle.pair.specs.Marks.{codeOf, channelOf, bridgedOf, bit5, lineBits, mark}
+use Rattle.pair.specs.Request.{carries}
+use Rattle.pair.specs.Marks.{codeOf, channelOf, lineBits, mark}
 use Rattle.pair.specs.Coder.{sectionsFit, encodable}
 use Rattle.pair.specs.declared.Pair.{Pair}
 use Rattle.pair.proofs.Coding.{UsablePair, mark-none, bytes-usable}
@@ -20,14 +19,14 @@ use Rattle.request.specs.declared.Request.{Request}
 use Rattle.request.proofs.Channels.{bridge-within}
 use Rattle.controller.specs.Settings.{maskFits, idleK1, idleK2, fresh}
 use Rattle.controller.specs.Rules.{asked, accepting, held, isWait, decided, leftAfter, keepsBridge, k1Of, k2Of}
-use Rattle.controller.specs.Refusals.{againstMask, waitFits, acceptable, conditionsFit, channelFits, refusal}
-use Rattle.controller.specs.Step.{protection, waitOf, fateOf, localOf, answering, moved, step}
+use Rattle.controller.specs.Refusals.{waitFits, acceptable, conditionsFit, channelFits, refusal}
+use Rattle.controller.specs.Step.{protection, waitOf, fateOf, localOf, refused, answering, moved, step}
 use Rattle.controller.specs.Run.{Input, inputFits, stepBy, run}
 use Rattle.controller.specs.declared.Controller.{Controller}
 use Rattle.controller.specs.declared.Accepted.{Accepted}
 use Rattle.controller.specs.declared.Outcome.{Outcome}
-use Rattle.controller.proofs.Usability.{section-bounds, idle-usable}
-use Rattle.controller.proofs.Inputs.{WellFormed, well-formed, Acceptable, acceptable-facts, facts-acceptable}
+use Rattle.controller.proofs.Usability.{idle-usable}
+use Rattle.controller.proofs.Inputs.{well-formed, facts-acceptable}
 use Rattle.controller.proofs.Sendable.{Sendable, sendable-room}
 use Rattle.controller.proofs.Sending.{Usable, far-usable, far-channel, sent-sendable, wait-within}
 
@@ -93,6 +92,11 @@ pub record Sent (s : Controller) (o : Outcome) : Type 0 where
   pub recorded : o .k1 ≡ o .controller .sent
 
 module _ (s : Controller) (k1 k2 : ℕ) (conditions : List ℕ) (command c : ℕ) where
+  pub step-refused : (refusal s conditions command c ≡ 0 → ⊥)
+      → step s k1 k2 conditions command c ≡ refused (refusal s conditions command c) s
+  unfolding step
+  step-refused h = rw (ne-eqb (refusal s conditions command c) 0 h)
+
   not-refused : step s k1 k2 conditions command c .refusal ≡ 0
       → (refusal s conditions command c ≡ 0) × (step s k1 k2 conditions command c ≡ moved s k1 k2 conditions command c)
   unfolding step

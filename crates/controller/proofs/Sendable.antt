@@ -1,17 +1,16 @@
 -- What may be sent: a request of the table for n, coded by the mask, and WTR only while wait remains. Each candidate for
 -- the local request may be sent, and so may what is decided.
-use mathlib.Core.Path.{_≡_, refl, sym, ap, _∙_}
-use mathlib.Core.Bool.{Bool, true, false, _&&_, _||_, and-eq-true-iff, false≢true, true≢false}
-use mathlib.Core.List.{List, [], _∷_, _++_}
+use mathlib.Core.Path.{_≡_, refl, sym, _∙_}
+use mathlib.Core.Bool.{Bool, true, false, _&&_, false≢true}
+use mathlib.Core.List.{List, [], _∷_}
 use Prim.Native.Nat.{ℕ, suc, _+_, _≤_, _<_}
 use native.Mathlib.Omega.{arith}
-use lib.Dec.{ltb, leb, eqb, leb·zero}
+use lib.Dec.{leb, eqb, leb·zero}
 use lib.ListN.{length}
-use borrow.Author.Tests.{ltb-true, leb-true, eqb-true, eqb-false, le-leb}
-use Rattle.basics.specs.Choice.{if_then_else_}
+use borrow.Author.Tests.{eqb-true, eqb-false, le-leb}
 use Rattle.pair.specs.Request.{requests, carries, a-section}
 use Rattle.pair.specs.Coder.{sectionsFit}
-use Rattle.pair.proofs.Rows.{heldIn, carries-0, carries-section, carried-below, carried-within}
+use Rattle.pair.proofs.Rows.{heldIn, carries-section, carried-below, carried-within}
 use Rattle.request.specs.declared.Request.{Request}
 use Rattle.request.proofs.Order.{Each}
 use Rattle.controller.specs.Settings.{high}

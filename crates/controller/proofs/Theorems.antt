@@ -2,25 +2,28 @@
 use mathlib.Core.Path.{_≡_, refl}
 use mathlib.Core.Bool.{true, false}
 use mathlib.Core.List.{List}
-use mathlib.Core.Logic.{_⊎_}
-use Prim.Native.Nat.{ℕ}
+use mathlib.Core.Logic.{_↔_, _⊎_}
+use Prim.Native.Nat.{ℕ, _+_}
+use Rattle.basics.specs.First.{appliesAt, FirstAt}
+use Rattle.basics.proofs.First.{first-exact, none-exact}
 use Rattle.basics.proofs.One.{OneAnswer, one-value, one-case}
 use Rattle.basics.proofs.Table.{every}
 use Rattle.pair.specs.Request.{listed, carries, rankIn, rankOf}
-use Rattle.pair.specs.Marks.{mark}
+use Rattle.pair.specs.Marks.{lineBits, mark}
 use Rattle.pair.specs.Coder.{sectionsFit}
 use Rattle.request.specs.Order.{byRank, best}
 use Rattle.request.specs.declared.Request.{Request}
 use Rattle.request.proofs.Order.{OneOf}
 use Rattle.controller.specs.Settings.{maskFits, fresh}
 use Rattle.controller.specs.Rules.{reverse, noRequest, accepting, candidates, localRequest, decided}
-use Rattle.controller.specs.Refusals.{acceptable, conditionsFit, refusal}
-use Rattle.controller.specs.Step.{moved, step}
+use Rattle.controller.specs.Refusals.{acceptable, conditionsFit, faults, refusal}
+use Rattle.controller.specs.Step.{refused, moved, step}
 use Rattle.controller.specs.Run.{Input, inputFits, run}
 use Rattle.controller.specs.Sequences.{holds, sequences}
 use Rattle.controller.specs.declared.Controller.{Controller}
 use Rattle.controller.proofs.Candidates.{reverse-loses, none-loses, local-one, local-above, local-single}
-use Rattle.controller.proofs.Keeping.{Kept, Sent, step-keeps, fresh-acceptable, notRefused, run-taken}
+use Rattle.controller.proofs.Inputs.{faults-counted}
+use Rattle.controller.proofs.Keeping.{step-refused, step-keeps, fresh-acceptable, notRefused, run-taken}
 use Rattle.controller.proofs.Controller.fresh.Kinds as fresh-kinds
 use Rattle.controller.proofs.Controller.fresh.Reads as fresh-fn
 use Rattle.controller.proofs.Controller.fresh.Statement as fresh-statement
@@ -49,11 +52,43 @@ step-unique κs args x y s t p q = one-value p q
 fresh-accepted : (n mask w : ℕ) → sectionsFit n ≡ true → acceptable (fresh n mask w) ≡ true
 fresh-accepted = fresh-acceptable
 
--- A step that is not refused keeps the settings and answers an acceptable record; it sends a usable pair for n with line
--- bits 000, and its K1 is the one that the record holds as last sent.
+-- The refusals come in the paper's order: a step has refusal i + 1 exactly if the fault at place i is its first, and none
+-- exactly if there is no fault. A refused step answers zeros and the given record.
+refusals-right : (s : Controller) (conditions : List ℕ) (command c i : ℕ)
+    → (refusal s conditions command c ≡ i + 1) ↔ FirstAt (faults s conditions command c) i
+unfolding refusal
+refusals-right s conditions command c =
+    first-exact (faults s conditions command c) (faults-counted s conditions command c)
+
+refusals-complete : (s : Controller) (conditions : List ℕ) (command c : ℕ)
+    → (refusal s conditions command c ≡ 0) ↔ ((i : ℕ) → appliesAt (faults s conditions command c) i ≡ false)
+unfolding refusal
+refusals-complete s conditions command c =
+    none-exact 0 (faults s conditions command c) (faults-counted s conditions command c)
+
+refused-right : (s : Controller) (k1 k2 : ℕ) (conditions : List ℕ) (command c : ℕ)
+    → (refusal s conditions command c ≡ 0 → ⊥)
+    → step s k1 k2 conditions command c ≡ refused (refusal s conditions command c) s
+refused-right = step-refused
+
+-- A step that is not refused keeps the settings and answers an acceptable record.
 step-kept : (s : Controller) (k1 k2 : ℕ) (conditions : List ℕ) (command c : ℕ) →
-    let o = step s k1 k2 conditions command c in o .refusal ≡ 0 → Kept s o × Sent s o
-step-kept = step-keeps
+    let o = step s k1 k2 conditions command c in
+    o .refusal ≡ 0
+    → (o .controller .n ≡ s .n)
+    × (o .controller .mask ≡ s .mask)
+    × (o .controller .w ≡ s .w)
+    × (acceptable (o .controller) ≡ true)
+step-kept s k1 k2 conditions command c h =
+    let k = step-keeps s k1 k2 conditions command c h .0 in (k .sections, k .priorities, k .wait, k .accepts)
+
+-- What it sends is a usable pair for the same n, with line bits 000; and the K1 is the one that the record holds.
+sent-right : (s : Controller) (k1 k2 : ℕ) (conditions : List ℕ) (command c : ℕ) →
+    let o = step s k1 k2 conditions command c in
+    o .refusal ≡ 0
+    → (mark (s .n) (o .k1) (o .k2) ≡ 0) × (lineBits (o .k2) ≡ 0b000) × (o .k1 ≡ o .controller .sent)
+sent-right s k1 k2 conditions command c h =
+    let k = step-keeps s k1 k2 conditions command c h .1 in (k .usable, k .line, k .recorded)
 
 -- So no step of a run is refused, from a fresh record and with inputs that meet none of refusals 4 to 7.
 run-complete : (n mask w : ℕ) (inputs : List Input) → sectionsFit n ≡ true → maskFits n mask ≡ true

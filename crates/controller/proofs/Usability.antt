@@ -12,11 +12,10 @@ use borrow.Author.Tests.{leb-true, eqb-true, eq-eqb}
 use Rattle.pair.specs.Request.{requests, carries}
 use Rattle.pair.specs.Marks.{codeOf, channelOf, mark}
 use Rattle.pair.specs.Coder.{sectionsFit, decodingCase, decoding}
-use Rattle.pair.specs.declared.Pair.{Pair}
 use Rattle.pair.specs.declared.Decoded.{Decoded}
 use Rattle.pair.specs.declared.Decoded.the-variants as decoded
 use Rattle.pair.proofs.Decoded.{the-type}
-use Rattle.pair.proofs.Coding.{pairOf, fit-decoding, UsablePair, unmarked, mark-none}
+use Rattle.pair.proofs.Coding.{pairOf, fit-decoding, unmarked, mark-none}
 use Rattle.controller.specs.Settings.{idleK2}
 
 pub section-bounds : (n : ℕ) → sectionsFit n ≡ true → (1 ≤ n) × (n ≤ 14)

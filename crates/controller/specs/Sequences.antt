@@ -1,5 +1,5 @@
 -- The sequences P1 to P13 of document 01: n = 2, mask 0, W = 3, conditions good, no command unless given.
-use mathlib.Core.Bool.{Bool, true, _&&_}
+use mathlib.Core.Bool.{Bool, _&&_}
 use mathlib.Core.List.{List, [], _∷_}
 use Prim.Native.Nat.{ℕ}
 use lib.Dec.{eqb}

@@ -1,5 +1,4 @@
 -- One step (01, 'One step'): the refusals, then the seven rules.
-use mathlib.Core.Bool.{Bool}
 use mathlib.Core.List.{List}
 use Prim.Native.Nat.{ℕ}
 use lib.Dec.{eqb}

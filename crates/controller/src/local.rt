@@ -5,7 +5,7 @@ use crate::section::condition;
 use request::Request;
 use request::better;
 ghost use Prim.Native.Nat.{_≤_};
-ghost use Rattle.controller.specs.Rules.{noRequest, conditionsFrom, localRequest, decided};
+ghost use Rattle.controller.specs.Rules.{conditionsFrom, localRequest, decided};
 ghost use Rattle.pair.specs.Request.{rankOf};
 ghost use Rattle.request.specs.Order.{byRank, betterOf, best};
 ghost use lib.ListN.{length, drop};

@@ -1,6 +1,6 @@
 -- Laws of 'better' and of 'best'. Those of 'best' hold for every order that is irreflexive and transitive.
 use mathlib.Core.Path.{_≡_, refl, sym, _∙_}
-use mathlib.Core.Bool.{Bool, true, false, _&&_, _||_, and-eq-true-iff, true≢false, false≢true}
+use mathlib.Core.Bool.{Bool, true, false, _&&_, _||_, and-eq-true-iff, true≢false}
 use mathlib.Core.List.{List, [], _∷_, _++_}
 use mathlib.Core.Logic.{_⊎_, inl, inr, ⊎-elim}
 use mathlib.Mathlib.Data.Bool.Basic.{eq-false-of-not-eq-true}
@@ -86,6 +86,11 @@ abbrev pub OneOf : Request → List Request → Type 0
 OneOf x [] = ⊥
 OneOf x (y ∷ rest) = (x ≡ y) ⊎ OneOf x rest
 
+-- what holds of both holds of the one that is chosen
+pub choice-has : (P : Request → Type 0) (t : Bool) (a b : Request) → P a → P b → P (if t then a else b)
+choice-has P true a b h k = h
+choice-has P false a b h k = k
+
 abbrev pub Each : (Request → Type 0) → List Request → Type 0
 Each P [] = Unit {0}
 Each P (x ∷ rest) = P x × Each P rest
@@ -121,11 +126,8 @@ module _ (order : Request → Request → Bool) where
       → P (best order none xs)
   unfolding best
   best-has P [] none h each = h
-  best-has P (x ∷ xs) none h each = best-has P xs (betterOf order x none) (go (order x none) refl) (each .1)
-    where
-      go : (t : Bool) → order x none ≡ t → P (betterOf order x none)
-      go true e = rw e (each .0)
-      go false e = rw e h
+  best-has P (x ∷ xs) none h each =
+      best-has P xs (betterOf order x none) (choice-has P (order x none) x none (each .0) h) (each .1)
 
   module _ (irreflexive : (x : Request) → order x x ≡ false)
       (transitive : (x y z : Request) → order x y ≡ true → order y z ≡ true → order x z ≡ true) where

@@ -1,6 +1,5 @@
 -- `moved` meets its contract: each rule's function is handed what the rules before it gave.
 use mathlib.Core.Path.{_≡_}
-use Prim.Native.Nat.{_≤_}
 use native.Mathlib.Omega.{arith}
 use lib.Dec.{eqb}
 use lib.ListN.{drop}

@@ -1,7 +1,6 @@
 -- `best_section` meets its contract: what is left to look at is the best of the whole.
 use mathlib.Core.Path.{_≡_, refl, sym, _∙_}
 use Prim.Native.Nat.{_≤_, _-_}
-use native.Mathlib.Omega.{arith}
 use lib.ListN.{length}
 use borrow.Author.Needs.{needs}
 use Rattle.controller.proofs.Candidates.{bestFrom, one-section, no-section}
