@@ -9,9 +9,9 @@ use lib.Dec.{eqb}
 use lib.ListN.{length, getD, drop, drop-of-length-le}
 use lib.Seq.{drop-cons}
 use Rattle.pair.specs.Request.{rankIn, rankOf}
-use Rattle.request.specs.Order.{byRank, betterOf, best}
+use Rattle.request.specs.Order.{byRank, betterOf, best, OneOf}
 use Rattle.request.specs.declared.Request.{Request}
-use Rattle.request.proofs.Order.{OneOf, best-append, best-one, best-above, best-single}
+use Rattle.request.proofs.Order.{best-append, best-one, best-above, best-single}
 use Rattle.request.proofs.Order.{rank-irreflexive, rank-transitive}
 use Rattle.controller.specs.Rules.{reverse, noRequest, condition, conditionsFrom, candidates, localRequest, decided}
 

@@ -21,7 +21,7 @@ use Rattle.controller.specs.Settings.{maskFits, idleK1, idleK2, fresh}
 use Rattle.controller.specs.Rules.{asked, accepting, held, isWait, decided, leftAfter, keepsBridge, k1Of, k2Of}
 use Rattle.controller.specs.Refusals.{waitFits, acceptable, conditionsFit, channelFits, refusal}
 use Rattle.controller.specs.Step.{protection, waitOf, fateOf, localOf, refused, answering, moved, step}
-use Rattle.controller.specs.Run.{Input, inputFits, stepBy, run}
+use Rattle.controller.specs.Run.{Input, inputFits, stepBy, notRefused, run}
 use Rattle.controller.specs.declared.Controller.{Controller}
 use Rattle.controller.specs.declared.Accepted.{Accepted}
 use Rattle.controller.specs.declared.Outcome.{Outcome}
@@ -163,9 +163,6 @@ fresh-acceptable n mask w fits =
       coded = refl;
       waits = refl;
     }
-
-abbrev pub notRefused : Outcome → Bool
-notRefused o = eqb (o .refusal) 0
 
 pub run-taken : (inputs : List Input) (s : Controller) → sectionsFit (s .n) ≡ true → maskFits (s .n) (s .mask) ≡ true
     → acceptable s ≡ true → every (inputFits (s .n)) inputs ≡ true → every notRefused (run s inputs) ≡ true

@@ -11,19 +11,18 @@ use Rattle.basics.proofs.Table.{every}
 use Rattle.pair.specs.Request.{listed, carries, rankIn, rankOf}
 use Rattle.pair.specs.Marks.{lineBits, mark}
 use Rattle.pair.specs.Coder.{sectionsFit}
-use Rattle.request.specs.Order.{byRank, best}
+use Rattle.request.specs.Order.{byRank, best, OneOf}
 use Rattle.request.specs.declared.Request.{Request}
-use Rattle.request.proofs.Order.{OneOf}
 use Rattle.controller.specs.Settings.{maskFits, fresh}
 use Rattle.controller.specs.Rules.{reverse, noRequest, accepting, candidates, localRequest, decided}
 use Rattle.controller.specs.Refusals.{acceptable, conditionsFit, faults, refusal}
 use Rattle.controller.specs.Step.{refused, moved, step}
-use Rattle.controller.specs.Run.{Input, inputFits, run}
+use Rattle.controller.specs.Run.{Input, inputFits, notRefused, run}
 use Rattle.controller.specs.Sequences.{holds, sequences}
 use Rattle.controller.specs.declared.Controller.{Controller}
 use Rattle.controller.proofs.Candidates.{reverse-loses, none-loses, local-one, local-above, local-single}
 use Rattle.controller.proofs.Inputs.{faults-counted}
-use Rattle.controller.proofs.Keeping.{step-refused, step-keeps, fresh-acceptable, notRefused, run-taken}
+use Rattle.controller.proofs.Keeping.{step-refused, step-keeps, fresh-acceptable, run-taken}
 use Rattle.controller.proofs.Controller.fresh.Kinds as fresh-kinds
 use Rattle.controller.proofs.Controller.fresh.Reads as fresh-fn
 use Rattle.controller.proofs.Controller.fresh.Statement as fresh-statement

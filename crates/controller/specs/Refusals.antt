@@ -1,6 +1,6 @@
 -- Refusals 1 to 7 of a step (01, 'Numbered refusals').
 use mathlib.Core.Bool.{Bool, true, not, _&&_, _||_}
-use mathlib.Core.List.{List, [], _∷_}
+use mathlib.Core.List.{List, [], _∷_, _++_}
 use Prim.Native.Nat.{ℕ, _+_}
 use lib.Dec.{ltb, leb, eqb}
 use lib.ListN.{length}
@@ -8,8 +8,7 @@ use Rattle.basics.specs.Choice.{if_then_else_}
 use Rattle.basics.specs.First.{Check, _when_, firstOf}
 use Rattle.pair.specs.Request.{requests, carries}
 use Rattle.pair.specs.Marks.{codeOf, channelOf, mark}
-use Rattle.pair.specs.Coder.{sectionsFit}
-use Rattle.controller.specs.Settings.{high, maskFits}
+use Rattle.controller.specs.Settings.{high, settingsFaults}
 use Rattle.controller.specs.Rules.{isWait}
 use Rattle.controller.specs.declared.Controller.{Controller}
 
@@ -18,11 +17,11 @@ abbrev pub otherPriority : Bool → ℕ → Bool
 otherPriority isHigh code =
     if isHigh then eqb code 0b1100 || eqb code 0b1010 else eqb code 0b1101 || eqb code 0b1011
 
--- a fail or degrade code of a section 1..n against the mask
+-- the code of a section, 1 or more, that the mask codes otherwise
 abbrev pub againstMask : ℕ → ℕ → ℕ → Bool
 againstMask mask code c = leb 1 c && otherPriority (high mask c) code
 
--- wait left in 1..W for WTR, 0 for others
+-- WTR leaves 1 to W steps of wait, any other request none
 abbrev pub waitFits : ℕ → ℕ → ℕ → Bool
 waitFits code w left = if isWait code then leb 1 left && leb left w else eqb left 0
 
@@ -39,20 +38,20 @@ unfoldable pub conditionsFit : List ℕ → Bool
 conditionsFit [] = true
 conditionsFit (x ∷ rest) = leb x 2 && conditionsFit rest
 
--- the command's channel: 0 for 0, 1, 2; in 1..n for 3, 4
+-- none, clear and LO come with channel 0, FS and MS with a section's
 abbrev pub channelFits : ℕ → ℕ → ℕ → Bool
 channelFits n command c = if leb command 2 then eqb c 0 else leb 1 c && leb c n
 
+-- in the paper's order
 abbrev pub faults : Controller → List ℕ → ℕ → ℕ → List Check
 faults s conditions command c =
-    (1 when not (sectionsFit (s .n)))
-    ∷ (2 when not (maskFits (s .n) (s .mask)))
-    ∷ (3 when not (acceptable s))
+    settingsFaults (s .n) (s .mask)
+    ++ ((3 when not (acceptable s))
     ∷ (4 when not (eqb (length conditions) (s .n + 1)))
     ∷ (5 when not (conditionsFit conditions))
     ∷ (6 when ltb 4 command)
     ∷ (7 when not (channelFits (s .n) command c))
-    ∷ []
+    ∷ [])
 
 unfoldable pub refusal : Controller → List ℕ → ℕ → ℕ → ℕ
 refusal s conditions command c = firstOf (faults s conditions command c)

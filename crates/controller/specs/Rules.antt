@@ -43,19 +43,19 @@ asked k1 = request (codeOf k1) (channelOf k1)
 abbrev pub rankOfRequest : Request → ℕ
 rankOfRequest r = rankOf (r .code) (r .channel)
 
--- 1. Accepted pair, with what it asks for and bridges, and the mark.
+-- 1. Accepted pair: its bytes, its request and the channel that it bridges; beside them the mark of what was received.
 abbrev pub accepted : ℕ → ℕ → ℕ → Accepted
 accepted k1 k2 m = record { k1 = k1; k2 = k2; request = asked k1; bridged = bridgedOf k2; mark = m }
 
--- section 0 failed: it becomes 00 08, and the received pair is not looked at; otherwise a usable pair replaces it, and
--- an unusable one leaves it, with its mark
+-- under a failed section 0 the idle pair stands in for whatever comes; else what comes counts if it is usable, and of an
+-- unusable pair the mark is all that is learnt
 unfoldable pub accepting : Controller → Bool → ℕ → ℕ → Accepted
 accepting s failed k1 k2 =
     if failed then accepted idleK1 idleK2 0
     else if eqb (mark (s .n) k1 k2) 0 then accepted k1 k2 0
     else accepted (s .k1) (s .k2) (mark (s .n) k1 k2)
 
--- 2. Command. The held command is the one last sent, if that was LO, FS or MS.
+-- 2. Command. LO, FS and MS are commands; the one that is held is read off the K1 last sent.
 abbrev pub isCommand : ℕ → Bool
 isCommand code = eqb code 0b1111 || eqb code 0b1110 || eqb code 0b1000
 
@@ -65,7 +65,7 @@ held last = if isCommand (last .code) then last else noRequest
 abbrev pub isClear : ℕ → Bool
 isClear command = eqb command 1
 
--- clear drops it
+-- and is gone once clear is given
 abbrev pub kept : ℕ → Request → Request
 kept command hold = if isClear command then noRequest else hold
 
@@ -77,14 +77,14 @@ given command c =
     else if eqb command 4 then manual c
     else noRequest
 
--- it replaces the held one only if none is held or its rank is higher
+-- whether the new one takes the place of the held one
 abbrev pub taken : Request → Request → Bool
 taken hold new = replaces (rankOfRequest hold) (rankOfRequest new)
 
 abbrev pub standing : Request → Request → Request
 standing hold new = if taken hold new then new else hold
 
--- 3. Local request. Each section's condition, coded high or low by the mask.
+-- 3. Local request. What the condition of a section asks for, by its priority.
 abbrev pub failCode : Bool → ℕ
 failCode isHigh = if isHigh then 0b1101 else 0b1100
 
@@ -102,7 +102,7 @@ abbrev pub conditionsFrom : ℕ → ℕ → List ℕ → List Request
 conditionsFrom mask c [] = []
 conditionsFrom mask c (x ∷ rest) = condition mask c x ∷ conditionsFrom mask (suc c) rest
 
--- WTR c if the K1 last sent was a signal fail or degrade with channel c, 1 or more, or WTR c, and wait remains
+-- a wait belongs to the section whose fail or degrade, or whose WTR, went out last
 abbrev pub isFailOrDegrade : ℕ → Bool
 isFailOrDegrade code = eqb code 0b1101 || eqb code 0b1100 || eqb code 0b1011 || eqb code 0b1010
 
@@ -119,28 +119,30 @@ abbrev pub candidates : ℕ → ℕ → List ℕ → Request → Request → Lis
 candidates mask protection working command wait =
     command ∷ conditionsFrom mask 0 (protection ∷ working) ++ (wait ∷ [])
 
--- the highest rank wins; among equals, the lower channel; no candidate: NR 0
+-- the best by rank, then by channel; NR 0 where nobody asks for anything
 unfoldable pub localRequest : ℕ → ℕ → List ℕ → Request → Request → Request
 localRequest mask protection working command wait =
     best (byRank rankOf) noRequest (candidates mask protection working command wait)
 
--- 4. Decision. If the accepted one is strictly better, RR with its channel is sent; otherwise the local request.
+-- 4. Decision. A request of the far end that beats ours is answered by RR; otherwise ours goes out.
 abbrev pub decided : Request → Request → Request
 decided far near = if byRank rankOf far near then reverse (far .channel) else near
 
--- 5. After. A command that is not sent is forgotten and, if new, counts as denied.
+-- 5. After. An unsent command is forgotten by itself, since the next step reads the held one off the K1 of this one; whether
+-- a new command was sent decides its fate (request, Command).
 abbrev pub same : Request → Request → Bool
 same a b = eqb (a .code) (b .code) && eqb (a .channel) (b .channel)
 
--- wait left is 0 unless WTR is sent
+-- the wait goes on with WTR alone
 abbrev pub leftAfter : Request → ℕ → ℕ
 leftAfter sent now = if isWait (sent .code) then now else 0
 
--- 6. Bridge. It is kept where NR is sent (Table 7-4 as corrected in 003).
+-- 6 and 7. Bridge and selector are channels alone (request, Bridge). Sending NR keeps the bridge, as Table 7-4 does since
+-- its correction in 003.
 abbrev pub keepsBridge : Request → Bool
 keepsBridge sent = eqb (sent .code) 0b0000
 
--- the bytes: code and channel; bridge, bit 5 = 1, line bits 000
+-- the bytes that are sent; bit 5 is 1, the line bits are 000
 abbrev pub k1Of : Request → ℕ
 k1Of sent = sent .code * 16 + sent .channel
 

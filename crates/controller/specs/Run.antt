@@ -28,6 +28,9 @@ inputFits n i =
 abbrev pub stepBy : Controller → Input → Outcome
 stepBy s i = step s (i .k1) (i .k2) (i .conditions) (i .command) (i .channel)
 
+abbrev pub notRefused : Outcome → Bool
+notRefused o = eqb (o .refusal) 0
+
 -- what the steps of a run answer
 abbrev pub run : Controller → List Input → List Outcome
 run s [] = []

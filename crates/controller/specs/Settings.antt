@@ -10,7 +10,7 @@ use Rattle.controller.specs.declared.Controller.{Controller}
 use Rattle.controller.specs.declared.Made.{Made}
 use Rattle.controller.specs.declared.Made.the-variants as made
 
--- bit c-1 of the mask marks section c as high priority; section 0 is always high
+-- section c is of high priority by bit c-1 of the mask, section 0 by itself
 abbrev pub high : ℕ → ℕ → Bool
 high mask c = if eqb c 0 then true else eqb (mask / 2 ^ (c - 1) % 2) 1
 
@@ -18,7 +18,7 @@ high mask c = if eqb c 0 then true else eqb (mask / 2 ^ (c - 1) % 2) 1
 abbrev pub maskFits : ℕ → ℕ → Bool
 maskFits n mask = eqb (mask / 2 ^ n) 0
 
--- fresh: accepted 00 08, sent 00, left 0
+-- the idle pair, which a fresh record has accepted; its K1 is the one last sent
 abbrev pub idleK1 : ℕ
 idleK1 = 0x00
 
@@ -28,6 +28,7 @@ idleK2 = 0x08
 abbrev pub fresh : ℕ → ℕ → ℕ → Controller
 fresh n mask w = record { n = n; mask = mask; w = w; k1 = idleK1; k2 = idleK2; sent = idleK1; left = 0 }
 
+-- refusals 1 and 2
 abbrev pub settingsFaults : ℕ → ℕ → List Check
 settingsFaults n mask = (1 when not (sectionsFit n)) ∷ (2 when not (maskFits n mask)) ∷ []
 

@@ -16,7 +16,7 @@ use Rattle.controller.specs.declared.Controller.{Controller}
 use Rattle.controller.specs.declared.Accepted.{Accepted}
 use Rattle.controller.specs.declared.Outcome.{Outcome}
 
--- a refused step answers zeros and the given record
+-- refused: the number, and the record as it came
 abbrev pub refused : ℕ → Controller → Outcome
 refused k s =
     record { refusal = k; controller = s; k1 = 0; k2 = 0; bridge = 0; selector = 0; mark = 0; fate = 0 }

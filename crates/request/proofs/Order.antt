@@ -9,7 +9,7 @@ use native.Mathlib.Omega.{arith}
 use lib.Dec.{ltb, eqb}
 use borrow.Author.Tests.{ltb-true, ltb-false, eqb-true, lt-ltb, eq-eqb}
 use Rattle.basics.specs.Choice.{if_then_else_}
-use Rattle.request.specs.Order.{mayWin, better, byRank, betterOf, best}
+use Rattle.request.specs.Order.{mayWin, better, byRank, betterOf, best, OneOf}
 use Rattle.request.specs.declared.Request.{Request}
 
 -- what the test 'better' says
@@ -80,11 +80,6 @@ better-total r c s d h k differ = go (ltb s r) (ltb r s) (ltb c d) refl refl ref
 -- RR and NR, of rank 0, never win
 pub never-wins : (c s d : ℕ) → better 0 c s d ≡ false
 never-wins c s d = refl
-
--- x is one of some candidates
-abbrev pub OneOf : Request → List Request → Type 0
-OneOf x [] = ⊥
-OneOf x (y ∷ rest) = (x ≡ y) ⊎ OneOf x rest
 
 -- what holds of both holds of the one that is chosen
 pub choice-has : (P : Request → Type 0) (t : Bool) (a b : Request) → P a → P b → P (if t then a else b)

@@ -6,9 +6,9 @@ use mathlib.Core.List.{List}
 use mathlib.Core.Logic.{_⊎_, inr}
 use Prim.Native.Nat.{ℕ, _<_}
 use Rattle.basics.proofs.One.{OneAnswer, one-value}
-use Rattle.request.specs.Order.{better, byRank, best}
+use Rattle.request.specs.Order.{better, byRank, best, OneOf}
 use Rattle.request.specs.declared.Request.{Request}
-use Rattle.request.proofs.Order.{better-irreflexive, better-transitive, better-total, never-wins, OneOf}
+use Rattle.request.proofs.Order.{better-irreflexive, better-transitive, better-total, never-wins}
 use Rattle.request.proofs.Order.{best-one, best-above, best-single, rank-irreflexive, rank-transitive}
 use Rattle.request.proofs.better.Kinds as better-kinds
 use Rattle.request.proofs.better.Reads as better-fn

@@ -4,11 +4,12 @@ use Prim.Native.Nat.{ℕ}
 use lib.Dec.{ltb, eqb}
 use Rattle.basics.specs.Choice.{if_then_else_}
 
--- a new command replaces the held one only if none is held or its rank is higher
+-- where none is held any command comes in; a held one gives way to a higher rank alone
 abbrev pub replaces : ℕ → ℕ → Bool
 replaces held given = eqb held 0 || ltb held given
 
--- 0 none given, 1 taken, 2 denied; clear is always taken, a new command if it replaced the held one and is sent
+-- 0 for no command, 1 for one that was taken, 2 for one that was denied. Clear is never denied; a new command has to get
+-- past the held one and onto the line
 abbrev pub fate : ℕ → Bool → Bool → ℕ
 fate command replaced sent =
     if eqb command 0 then 0

@@ -2,6 +2,8 @@
 -- handed in.
 use mathlib.Core.Bool.{Bool, _&&_, _||_}
 use mathlib.Core.List.{List, [], _∷_}
+use mathlib.Core.Logic.{_⊎_}
+use mathlib.Core.Path.{_≡_}
 use Prim.Native.Nat.{ℕ}
 use lib.Dec.{ltb, eqb}
 use Rattle.basics.specs.Choice.{if_then_else_}
@@ -29,3 +31,8 @@ betterOf order a b = if order a b then a else b
 unfoldable pub best : (Request → Request → Bool) → Request → List Request → Request
 best order none [] = none
 best order none (x ∷ rest) = best order (betterOf order x none) rest
+
+-- x is one of some candidates
+abbrev pub OneOf : Request → List Request → Type 0
+OneOf x [] = ⊥
+OneOf x (y ∷ rest) = (x ≡ y) ⊎ OneOf x rest

@@ -3,7 +3,7 @@ use mathlib.Core.Bool.{Bool}
 use Prim.Native.Nat.{ℕ, _-_}
 use Rattle.basics.specs.Choice.{if_then_else_}
 
--- entering from a fail or degrade starts the wait at W; each later step takes one off; clear drops it
+-- W in the step after a fail or degrade, one less in each step after that; a clear ends it
 abbrev pub waitNow : Bool → Bool → Bool → ℕ → ℕ → ℕ
 waitNow clear entering waiting w left =
     if clear then 0

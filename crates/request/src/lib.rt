@@ -57,11 +57,8 @@ pub fn wait_now(clear: bool, entering: bool, waiting: bool, w: u16, left: u16) -
 pub fn bridge(accepted: u8, sent: u8, kept: bool) -> u8
     ensures { λ r. ⌜ r ≡ bridge accepted sent kept ⌝ }
 {
-    if (accepted == sent) | kept {
-        accepted
-    } else {
-        0
-    }
+    let bridged = (accepted == sent) | kept;
+    if bridged { accepted } else { 0 }
 }
 
 pub fn selector(sent: u8, bridged: u8) -> u8
