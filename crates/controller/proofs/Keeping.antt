@@ -17,16 +17,18 @@ use Rattle.pair.proofs.Coding.{UsablePair, mark-none, bytes-usable}
 use Rattle.request.specs.Bridge.{bridge}
 use Rattle.request.specs.declared.Request.{Request}
 use Rattle.request.proofs.Channels.{bridge-within}
-use Rattle.controller.specs.Settings.{maskFits, idleK1, idleK2, fresh}
+use Rattle.controller.specs.Settings.{maskFits, idleK1, idleK2, fresh, makingCase, making}
 use Rattle.controller.specs.Rules.{asked, accepting, held, isWait, decided, leftAfter, keepsBridge, k1Of, k2Of}
 use Rattle.controller.specs.Refusals.{waitFits, acceptable, conditionsFit, channelFits, refusal}
 use Rattle.controller.specs.Step.{protection, waitOf, fateOf, localOf, refused, answering, moved, step}
 use Rattle.controller.specs.Run.{Input, inputFits, stepBy, notRefused, run}
 use Rattle.controller.specs.declared.Controller.{Controller}
+use Rattle.controller.specs.declared.Made.the-variants as made
 use Rattle.controller.specs.declared.Accepted.{Accepted}
 use Rattle.controller.specs.declared.Outcome.{Outcome}
 use Rattle.controller.proofs.Usability.{idle-usable}
 use Rattle.controller.proofs.Inputs.{well-formed, facts-acceptable}
+use Rattle.controller.proofs.Making.{fresh-facts}
 use Rattle.controller.proofs.Sendable.{Sendable, sendable-room}
 use Rattle.controller.proofs.Sending.{Usable, far-usable, far-channel, sent-sendable, wait-within}
 
@@ -153,7 +155,7 @@ module _ (s : Controller) (k1 k2 : ℕ) (conditions : List ℕ) (command c : ℕ
       let command-fits : ltb 4 command ≡ false = le-ltb 4 command (leb-true command 4 (third .1)) in
       rw (fits, mask-fits, accepts, two .0, two .1, command-fits, last .1)
 
-pub fresh-acceptable : (n mask w : ℕ) → sectionsFit n ≡ true → acceptable (fresh n mask w) ≡ true
+fresh-acceptable : (n mask w : ℕ) → sectionsFit n ≡ true → acceptable (fresh n mask w) ≡ true
 unfolding carries
 fresh-acceptable n mask w fits =
     facts-acceptable (fresh n mask w)
@@ -164,7 +166,7 @@ fresh-acceptable n mask w fits =
       waits = refl;
     }
 
-pub run-taken : (inputs : List Input) (s : Controller) → sectionsFit (s .n) ≡ true → maskFits (s .n) (s .mask) ≡ true
+run-taken : (inputs : List Input) (s : Controller) → sectionsFit (s .n) ≡ true → maskFits (s .n) (s .mask) ≡ true
     → acceptable s ≡ true → every (inputFits (s .n)) inputs ≡ true → every notRefused (run s inputs) ≡ true
 run-taken [] s fits mask-fits accepts well = refl
 run-taken (i ∷ rest) s fits mask-fits accepts well =
@@ -174,3 +176,14 @@ run-taken (i ∷ rest) s fits mask-fits accepts well =
     rw first
     (run-taken rest (stepBy s i .controller) (rw (kept .sections) fits) (rw (kept .sections, kept .priorities) mask-fits)
     (kept .accepts) (rw (kept .sections) (both .1)))
+
+-- a record that was made fresh
+module _ (n mask w : ℕ) (s : Controller) (h : makingCase (making n mask w) ≡ made.Fresh s) where
+  pub made-acceptable : acceptable s ≡ true
+  made-acceptable = let facts = fresh-facts n mask w s h in rw (facts .0) (fresh-acceptable n mask w (facts .1))
+
+  pub made-run-taken : (inputs : List Input) → every (inputFits n) inputs ≡ true → every notRefused (run s inputs) ≡ true
+  made-run-taken inputs well =
+      let facts = fresh-facts n mask w s h in
+      rw (facts .0)
+      (run-taken inputs (fresh n mask w) (facts .1) (facts .2) (fresh-acceptable n mask w (facts .1)) well)

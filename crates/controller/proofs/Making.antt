@@ -1,13 +1,19 @@
--- Laws of making a fresh record: the answer tells the numbers that it was made of.
+-- Laws of making a fresh record: the answer tells the numbers that it was made of, and a record comes of good settings.
 use mathlib.Core.Path.{_≡_, refl}
 use mathlib.Core.Bool.{Bool, true, false}
 use Prim.Native.Nat.{ℕ}
+use native.Mathlib.Omega.{arith}
 use lib.Dec.{eqb}
+use borrow.Author.Tests.{eqb-true}
 use Rattle.basics.specs.Answer.{Answers}
 use Rattle.basics.specs.First.{firstOf}
 use Rattle.basics.proofs.One.{answers}
-use Rattle.controller.specs.Settings.{settingsFaults, makingTold, makingCase, making}
+use Rattle.pair.specs.Coder.{sectionsFit}
+use Rattle.controller.specs.Settings.{maskFits, fresh, settingsFaults, makingTold, makingCase, making}
+use Rattle.controller.specs.declared.Controller.{Controller}
 use Rattle.controller.specs.declared.Made.{Made}
+use Rattle.controller.specs.declared.Made.the-variants as made
+use Rattle.controller.proofs.Inputs.{settings-fit}
 
 making-whole : (n mask w : ℕ) → makingTold (makingCase (making n mask w)) ≡ making n mask w
 unfolding making
@@ -21,3 +27,18 @@ making-whole n mask w = go (eqb (firstOf (settingsFaults n mask)) 0) refl
 pub made-by : (n mask w : ℕ) {answer : Made} → answer ≡ makingCase (making n mask w)
     → Answers makingTold makingCase (making n mask w) answer
 made-by n mask w = answers (making-whole n mask w)
+
+pub fresh-facts : (n mask w : ℕ) (s : Controller) → makingCase (making n mask w) ≡ made.Fresh s
+    → (s ≡ fresh n mask w) × (sectionsFit n ≡ true) × (maskFits n mask ≡ true)
+unfolding making
+fresh-facts n mask w s h = go (eqb (firstOf (settingsFaults n mask)) 0) refl
+  where
+    go : (z : Bool) → eqb (firstOf (settingsFaults n mask)) 0 ≡ z
+        → (s ≡ fresh n mask w) × (sectionsFit n ≡ true) × (maskFits n mask ≡ true)
+    go true z =
+        let e : made.Fresh (fresh n mask w) ≡ made.Fresh s = rw z at h in
+        let fits = settings-fit n mask (eqb-true (firstOf (settingsFaults n mask)) 0 z) in
+        (cc, fits .0, fits .1)
+    go false z =
+        let e : made.Refused (firstOf (settingsFaults n mask)) ≡ made.Fresh s = simp z at h in
+        let none : _≡_ {A = ℕ} 0 1 = cc in absurd (omega arith)

@@ -10,19 +10,19 @@ use Rattle.basics.proofs.One.{OneAnswer, one-value, one-case}
 use Rattle.basics.proofs.Table.{every}
 use Rattle.pair.specs.Request.{listed, carries, rankIn, rankOf}
 use Rattle.pair.specs.Marks.{lineBits, mark}
-use Rattle.pair.specs.Coder.{sectionsFit}
 use Rattle.request.specs.Order.{byRank, best, OneOf}
 use Rattle.request.specs.declared.Request.{Request}
-use Rattle.controller.specs.Settings.{maskFits, fresh}
+use Rattle.controller.specs.Settings.{makingCase, making}
 use Rattle.controller.specs.Rules.{reverse, noRequest, accepting, candidates, localRequest, decided}
 use Rattle.controller.specs.Refusals.{acceptable, conditionsFit, faults, refusal}
 use Rattle.controller.specs.Step.{refused, moved, step}
 use Rattle.controller.specs.Run.{Input, inputFits, notRefused, run}
 use Rattle.controller.specs.Sequences.{holds, sequences}
 use Rattle.controller.specs.declared.Controller.{Controller}
+use Rattle.controller.specs.declared.Made.the-variants as made
 use Rattle.controller.proofs.Candidates.{reverse-loses, none-loses, local-one, local-above, local-single}
 use Rattle.controller.proofs.Inputs.{faults-counted}
-use Rattle.controller.proofs.Keeping.{step-refused, step-keeps, fresh-acceptable, run-taken}
+use Rattle.controller.proofs.Keeping.{step-refused, step-keeps, made-acceptable, made-run-taken}
 use Rattle.controller.proofs.Controller.fresh.Kinds as fresh-kinds
 use Rattle.controller.proofs.Controller.fresh.Reads as fresh-fn
 use Rattle.controller.proofs.Controller.fresh.Statement as fresh-statement
@@ -48,8 +48,8 @@ step-unique : OneAnswer 1 step-kinds.ps step-kinds.r step-fn.Post
 step-unique κs args x y s t p q = one-value p q
 
 -- A fresh record is acceptable: it meets none of refusal 3.
-fresh-accepted : (n mask w : ℕ) → sectionsFit n ≡ true → acceptable (fresh n mask w) ≡ true
-fresh-accepted = fresh-acceptable
+fresh-accepted : (n mask w : ℕ) (s : Controller) → makingCase (making n mask w) ≡ made.Fresh s → acceptable s ≡ true
+fresh-accepted = made-acceptable
 
 -- The refusals come in the paper's order: a step has refusal i + 1 exactly if the fault at place i is its first, and none
 -- exactly if there is no fault. A refused step answers zeros and the given record.
@@ -90,10 +90,9 @@ sent-right s k1 k2 conditions command c h =
     let k = step-keeps s k1 k2 conditions command c h .1 in (k .usable, k .line, k .recorded)
 
 -- So no step of a run is refused, from a fresh record and with inputs that meet none of refusals 4 to 7.
-run-complete : (n mask w : ℕ) (inputs : List Input) → sectionsFit n ≡ true → maskFits n mask ≡ true
-    → every (inputFits n) inputs ≡ true → every notRefused (run (fresh n mask w) inputs) ≡ true
-run-complete n mask w inputs fits mask-fits =
-    run-taken inputs (fresh n mask w) fits mask-fits (fresh-acceptable n mask w fits)
+run-complete : (n mask w : ℕ) (s : Controller) → makingCase (making n mask w) ≡ made.Fresh s
+    → (inputs : List Input) → every (inputFits n) inputs ≡ true → every notRefused (run s inputs) ≡ true
+run-complete = made-run-taken
 
 -- The local request is NR 0 or one of the candidates; no candidate is better; and a single candidate is it, whatever
 -- stands beside it that cannot win.
