@@ -47,10 +47,6 @@ fresh-unique κs args x y s t p q = one-case p q
 step-unique : OneAnswer 1 step-kinds.ps step-kinds.r step-fn.Post
 step-unique κs args x y s t p q = one-value p q
 
--- A fresh record is acceptable: it meets none of refusal 3.
-fresh-accepted : (n mask w : ℕ) (s : Controller) → makingCase (making n mask w) ≡ made.Fresh s → acceptable s ≡ true
-fresh-accepted = made-acceptable
-
 -- The refusals come in the paper's order: a step has refusal i + 1 exactly if the fault at place i is its first, and none
 -- exactly if there is no fault. A refused step answers zeros and the given record.
 refusals-right : (s : Controller) (conditions : List ℕ) (command c i : ℕ)
@@ -69,6 +65,10 @@ refused-right : (s : Controller) (k1 k2 : ℕ) (conditions : List ℕ) (command 
     → (refusal s conditions command c ≡ 0 → ⊥)
     → step s k1 k2 conditions command c ≡ refused (refusal s conditions command c) s
 refused-right = step-refused
+
+-- A fresh record is acceptable: it meets none of refusal 3.
+fresh-accepted : (n mask w : ℕ) (s : Controller) → makingCase (making n mask w) ≡ made.Fresh s → acceptable s ≡ true
+fresh-accepted = made-acceptable
 
 -- A step that is not refused keeps the settings and answers an acceptable record.
 step-kept : (s : Controller) (k1 k2 : ℕ) (conditions : List ℕ) (command c : ℕ) →
