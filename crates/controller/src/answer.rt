@@ -4,6 +4,7 @@ use crate::Controller;
 use crate::Outcome;
 use crate::acceptance::accepting;
 use crate::asked::asked;
+use crate::codes::NOTHING;
 use crate::command::given;
 use crate::command::held;
 use crate::command::kept;
@@ -50,7 +51,7 @@ fn same(a: Request, b: Request) -> bool
 fn keeps_bridge(sent: Request) -> bool
     ensures { λ r. ⌜ r ≡ keepsBridge sent ⌝ }
 {
-    sent.code == 0b0000
+    sent.code == NOTHING
 }
 
 fn answering(s: Controller, far: Accepted, sent: Request, wait: u16, fate: u8) -> Outcome

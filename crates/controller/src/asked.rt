@@ -4,12 +4,6 @@ use request::Request;
 ghost use Rattle.controller.specs.Rules.{asked, rankOfRequest};
 ghost use mathlib.Core.Path.{_≡_};
 
-// NR 0, which is sent where nothing is asked for.
-pub(crate) const NO_REQUEST: Request = Request {
-    code: 0b0000,
-    channel: 0,
-};
-
 pub(crate) fn asked(k1: u8) -> Request
     ensures { λ r. ⌜ r ≡ asked k1 ⌝ }
 {

@@ -1,6 +1,9 @@
 // The held command and a new one (01, 'One step', rule 2).
-use crate::asked::NO_REQUEST;
 use crate::asked::rank_of;
+use crate::codes::FORCED_SWITCH;
+use crate::codes::LOCKOUT;
+use crate::codes::MANUAL_SWITCH;
+use crate::codes::NO_REQUEST;
 use request::Request;
 use request::replaces;
 ghost use Rattle.controller.specs.Rules.{isCommand, held, kept, given, taken, standing};
@@ -9,7 +12,7 @@ ghost use mathlib.Core.Path.{_≡_};
 fn is_command(code: u8) -> bool
     ensures { λ r. ⌜ r ≡ isCommand code ⌝ }
 {
-    (code == 0b1111) | (code == 0b1110) | (code == 0b1000)
+    (code == LOCKOUT) | (code == FORCED_SWITCH) | (code == MANUAL_SWITCH)
 }
 
 pub(crate) fn held(last: Request) -> Request
@@ -33,19 +36,19 @@ pub(crate) fn given(command: u8, c: u8) -> Request
 {
     if command == 2 {
         return Request {
-            code: 0b1111,
+            code: LOCKOUT,
             channel: 0,
         };
     }
     if command == 3 {
         return Request {
-            code: 0b1110,
+            code: FORCED_SWITCH,
             channel: c,
         };
     }
     if command == 4 {
         return Request {
-            code: 0b1000,
+            code: MANUAL_SWITCH,
             channel: c,
         };
     }

@@ -2,6 +2,7 @@
 mod acceptance;
 mod answer;
 mod asked;
+mod codes;
 mod command;
 mod local;
 mod refusal;

@@ -1,6 +1,7 @@
 // The local request and the decision (01, 'One step', rules 3 and 4).
-use crate::asked::NO_REQUEST;
 use crate::asked::rank_of;
+use crate::codes::NO_REQUEST;
+use crate::codes::REVERSE;
 use crate::section::condition;
 use request::Request;
 use request::better;
@@ -60,7 +61,7 @@ pub(crate) fn decided(far: Request, near: Request) -> Request
 {
     if beats(far, near) {
         Request {
-            code: 0b0010,
+            code: REVERSE,
             channel: far.channel,
         }
     } else {

@@ -1,6 +1,10 @@
 // Refusals 1 to 7 (01, 'Numbered refusals').
 use crate::Controller;
 use crate::acceptance::mark_in;
+use crate::codes::DEGRADE_HIGH;
+use crate::codes::DEGRADE_LOW;
+use crate::codes::FAIL_HIGH;
+use crate::codes::FAIL_LOW;
 use crate::section::high;
 use crate::wait::is_wait;
 use pair::decode;
@@ -48,9 +52,9 @@ fn other_priority(first: bool, code: u8) -> bool
     ensures { λ r. ⌜ r ≡ otherPriority first code ⌝ }
 {
     if first {
-        (code == 0b1100) | (code == 0b1010)
+        (code == FAIL_LOW) | (code == DEGRADE_LOW)
     } else {
-        (code == 0b1101) | (code == 0b1011)
+        (code == FAIL_HIGH) | (code == DEGRADE_HIGH)
     }
 }
 

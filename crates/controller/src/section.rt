@@ -1,5 +1,9 @@
 // What the condition of a section asks for (01, 'Settings' and rule 3).
-use crate::asked::NO_REQUEST;
+use crate::codes::DEGRADE_HIGH;
+use crate::codes::DEGRADE_LOW;
+use crate::codes::FAIL_HIGH;
+use crate::codes::FAIL_LOW;
+use crate::codes::NO_REQUEST;
 use request::Request;
 ghost use Prim.Native.Nat.{_≤_};
 ghost use Rattle.controller.specs.Rules.{failCode, degradeCode, condition};
@@ -20,13 +24,13 @@ pub(crate) fn high(mask: u16, c: u8) -> bool
 fn fail_code(first: bool) -> u8
     ensures { λ r. ⌜ r ≡ failCode first ⌝ }
 {
-    if first { 0b1101 } else { 0b1100 }
+    if first { FAIL_HIGH } else { FAIL_LOW }
 }
 
 fn degrade_code(first: bool) -> u8
     ensures { λ r. ⌜ r ≡ degradeCode first ⌝ }
 {
-    if first { 0b1011 } else { 0b1010 }
+    if first { DEGRADE_HIGH } else { DEGRADE_LOW }
 }
 
 pub(crate) fn condition(mask: u16, c: u8, x: u8) -> Request

@@ -1,7 +1,12 @@
 // The wait to restore (01, 'One step', rules 3 and 5).
 use crate::Controller;
-use crate::asked::NO_REQUEST;
 use crate::asked::asked;
+use crate::codes::DEGRADE_HIGH;
+use crate::codes::DEGRADE_LOW;
+use crate::codes::FAIL_HIGH;
+use crate::codes::FAIL_LOW;
+use crate::codes::NO_REQUEST;
+use crate::codes::WAIT_TO_RESTORE;
 use request::Request;
 use request::wait_now;
 ghost use Rattle.controller.specs.Rules.{isFailOrDegrade, isWait, entersWait, waiting, leftAfter};
@@ -11,13 +16,13 @@ ghost use mathlib.Core.Path.{_≡_};
 fn is_fail_or_degrade(code: u8) -> bool
     ensures { λ r. ⌜ r ≡ isFailOrDegrade code ⌝ }
 {
-    (code == 0b1101) | (code == 0b1100) | (code == 0b1011) | (code == 0b1010)
+    (code == FAIL_HIGH) | (code == FAIL_LOW) | (code == DEGRADE_HIGH) | (code == DEGRADE_LOW)
 }
 
 pub(crate) fn is_wait(code: u8) -> bool
     ensures { λ r. ⌜ r ≡ isWait code ⌝ }
 {
-    code == 0b0110
+    code == WAIT_TO_RESTORE
 }
 
 fn enters_wait(last: Request) -> bool
@@ -42,7 +47,7 @@ pub(crate) fn waiting(now: u16, last: Request) -> Request
 {
     if 0 < now {
         Request {
-            code: 0b0110,
+            code: WAIT_TO_RESTORE,
             channel: last.channel,
         }
     } else {

@@ -21,13 +21,14 @@ struct Walk {
     sum: u64,
 }
 
-// What a step is handed but for the conditions.
+// A drawn pair, and the number that was drawn last.
 struct Input {
     x: u64,
     k1: u8,
     k2: u8,
 }
 
+// A drawn command, and the number that was drawn last.
 struct Order {
     x: u64,
     command: u8,
