@@ -14,13 +14,15 @@ use Rattle.pair.specs.Marks.{codeOf, channelOf, lineBits, mark}
 use Rattle.pair.specs.Coder.{sectionsFit, encodable}
 use Rattle.pair.specs.declared.Pair.{Pair}
 use Rattle.pair.proofs.Coding.{UsablePair, mark-none, bytes-usable}
+use Rattle.request.specs.Command.{fate}
 use Rattle.request.specs.Bridge.{bridge}
 use Rattle.request.specs.declared.Request.{Request}
 use Rattle.request.proofs.Channels.{bridge-within}
 use Rattle.controller.specs.Settings.{maskFits, idleK1, idleK2, fresh, makingCase, making}
-use Rattle.controller.specs.Rules.{asked, accepting, held, isWait, decided, leftAfter, keepsBridge, k1Of, k2Of}
+use Rattle.controller.specs.Rules.{asked, accepting, held, kept, given, taken, standing, isWait, waiting}
+use Rattle.controller.specs.Rules.{localRequest, decided, same, leftAfter, keepsBridge, k1Of, k2Of}
 use Rattle.controller.specs.Refusals.{waitFits, acceptable, conditionsFit, channelFits, refusal}
-use Rattle.controller.specs.Step.{protection, waitOf, fateOf, localOf, refused, answering, moved, step}
+use Rattle.controller.specs.Step.{protection, waitOf, refused, answering, moved, step}
 use Rattle.controller.specs.Run.{Input, inputFits, stepBy, notRefused, run}
 use Rattle.controller.specs.declared.Controller.{Controller}
 use Rattle.controller.specs.declared.Made.the-variants as made
@@ -116,20 +118,24 @@ module _ (s : Controller) (k1 k2 : ℕ) (conditions : List ℕ) (command c : ℕ
       let well = well-formed s conditions command c h in
       let failed = eqb (protection conditions) 2 in
       let far = accepting s failed k1 k2 in
-      let hold = held (asked (s .sent)) in
-      let sent = decided (far .request) (localOf s hold (protection conditions) (drop 1 conditions) command c) in
-      let now = waitOf s command in
-      let fate = fateOf hold command c sent in
+      let last = asked (s .sent) in
+      let hold = kept command (held last) in
+      let new = given command c in
+      let now = waitOf s last command in
+      let stands = standing (taken hold new) hold new in
+      let near = localRequest (s .mask) (protection conditions) (drop 1 conditions) stands (waiting now last) in
+      let sent = decided (far .request) near in
+      let fated = fate command (taken hold new) (same sent new) in
       let usable = far-usable s conditions command c well failed k1 k2 in
       let channel = far-channel s conditions command c well failed k1 k2 in
       let able = sent-sendable s conditions command c well failed k1 k2 in
       let within = wait-within s conditions command c well in
-      let accepts = answer-acceptable s far sent now fate (well .fits) usable channel able within in
-      let pair = answer-usable s far sent now fate (well .fits) usable channel able within in
-      let line = answer-line s far sent now fate (well .fits) usable channel able within in (
+      let accepts = answer-acceptable s far sent now fated (well .fits) usable channel able within in
+      let pair = answer-usable s far sent now fated (well .fits) usable channel able within in
+      let line = answer-line s far sent now fated (well .fits) usable channel able within in (
         record { sections = refl; priorities = refl; wait = refl; accepts = accepts },
         record {
-          usable = mark-none (s .n) (answering s far sent now fate .k1) (answering s far sent now fate .k2) pair;
+          usable = mark-none (s .n) (answering s far sent now fated .k1) (answering s far sent now fated .k2) pair;
           line = line;
           recorded = refl;
         },

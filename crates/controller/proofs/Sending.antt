@@ -17,9 +17,9 @@ use Rattle.request.specs.declared.Request.{Request}
 use Rattle.request.proofs.Order.{choice-has, each-append, best-has}
 use Rattle.controller.specs.Settings.{idleK1, idleK2}
 use Rattle.controller.specs.Rules.{noRequest, reverse, asked, accepted, accepting, isCommand, held, isClear}
-use Rattle.controller.specs.Rules.{kept, given, taken, conditionsFrom, isFailOrDegrade, isWait, entersWait}
+use Rattle.controller.specs.Rules.{kept, given, taken, standing, conditionsFrom, isFailOrDegrade, isWait, entersWait}
 use Rattle.controller.specs.Rules.{waiting, candidates, localRequest, decided}
-use Rattle.controller.specs.Step.{protection, waitOf, commandOf, localOf}
+use Rattle.controller.specs.Step.{protection, waitOf}
 use Rattle.controller.specs.declared.Controller.{Controller}
 use Rattle.controller.specs.declared.Accepted.{Accepted}
 use Rattle.controller.proofs.Usability.{idle-usable}
@@ -37,10 +37,19 @@ module _ (s : Controller) (conditions : List ℕ) (command c : ℕ) (given-well 
   last = asked (s .sent)
 
   abbrev now : ℕ
-  now = waitOf s command
+  now = waitOf s last command
+
+  abbrev hold : Request
+  hold = kept command (held last)
+
+  abbrev new : Request
+  new = given command c
+
+  abbrev stands : Request
+  stands = standing (taken hold new) hold new
 
   abbrev near : Request
-  near = localOf s (held last) (protection conditions) (drop 1 conditions) command c
+  near = localRequest (s .mask) (protection conditions) (drop 1 conditions) stands (waiting now last)
 
   abbrev Able : Request → Type 0
   Able r = Sendable (s .n) (s .mask) now r
@@ -85,7 +94,7 @@ module _ (s : Controller) (conditions : List ℕ) (command c : ℕ) (given-well 
           }
       go false e = rw e (none-sendable (s .n) (s .mask) now)
 
-  given-sendable : Able (given command c)
+  given-sendable : Able new
   given-sendable = go (eqb command 2) (eqb command 3) (eqb command 4) refl refl refl
     where
       on-section : 2 < command → (1 ≤ c) × (c ≤ s .n)
@@ -95,7 +104,7 @@ module _ (s : Controller) (conditions : List ℕ) (command c : ℕ) (given-well 
           (leb-true 1 c (both .0), leb-true c (s .n) (both .1))
 
       go : (lo fs ms : Bool) → eqb command 2 ≡ lo → eqb command 3 ≡ fs → eqb command 4 ≡ ms
-          → Able (given command c)
+          → Able new
       go true fs ms e f g = rw e (lockout-sendable (s .n) (s .mask) now)
       go false true ms e f g =
           let three = eqb-true command 3 f in
@@ -107,10 +116,9 @@ module _ (s : Controller) (conditions : List ℕ) (command c : ℕ) (given-well 
           rw (e, f, g) (manual-sendable (s .n) (s .mask) now c (b .0) (b .1))
       go false false false e f g = rw (e, f, g) (none-sendable (s .n) (s .mask) now)
 
-  command-sendable : Able (commandOf (held last) command c)
+  command-sendable : Able stands
   command-sendable =
-      choice-has Able (taken (kept command (held last)) (given command c)) (given command c) (kept command (held last))
-      given-sendable
+      choice-has Able (taken hold new) new hold given-sendable
       (choice-has Able (isClear command) noRequest (held last) (none-sendable (s .n) (s .mask) now) held-sendable)
 
   -- where wait remains, the K1 last sent has a section's channel
@@ -158,8 +166,7 @@ module _ (s : Controller) (conditions : List ℕ) (command c : ℕ) (given-well 
       let room : 0 + length all ≤ s .n + 1 = omega (arith, working-number) in
       let sections = conditions-sendable (s .n) (s .mask) now all 0 room in
       best-has (byRank rankOf) Able
-      (candidates (s .mask) (protection conditions) (drop 1 conditions) (commandOf (held last) command c)
-      (waiting now last))
+      (candidates (s .mask) (protection conditions) (drop 1 conditions) stands (waiting now last))
       noRequest
       (none-sendable (s .n) (s .mask) now) (
         command-sendable,

@@ -1,4 +1,5 @@
--- The controller of document 01, in its order: settings, the rules of one step, the refusals, the step, the sequences.
+-- The controller of document 01, in its order: settings, the rules of one step, the refusals, the step, runs,
+-- the sequences.
 pub mod Settings
 pub mod Rules
 pub mod Refusals

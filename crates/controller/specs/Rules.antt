@@ -81,8 +81,8 @@ given command c =
 abbrev pub taken : Request → Request → Bool
 taken hold new = replaces (rankOfRequest hold) (rankOfRequest new)
 
-abbrev pub standing : Request → Request → Request
-standing hold new = if taken hold new then new else hold
+abbrev pub standing : Bool → Request → Request → Request
+standing replaced hold new = if replaced then new else hold
 
 -- 3. Local request. What the condition of a section asks for, by its priority.
 abbrev pub failCode : Bool → ℕ

@@ -26,21 +26,8 @@ abbrev pub protection : List ℕ → ℕ
 protection conditions = getD conditions 0 0
 
 -- the wait of this step
-abbrev pub waitOf : Controller → ℕ → ℕ
-waitOf s command =
-    waitNow (isClear command) (entersWait (asked (s .sent))) (isWait (asked (s .sent) .code)) (s .w) (s .left)
-
--- the command of this step, against the held one
-abbrev pub commandOf : Request → ℕ → ℕ → Request
-commandOf hold command c = standing (kept command hold) (given command c)
-
-abbrev pub fateOf : Request → ℕ → ℕ → Request → ℕ
-fateOf hold command c sent = fate command (taken (kept command hold) (given command c)) (same sent (given command c))
-
--- the local request of this step
-abbrev pub localOf : Controller → Request → ℕ → List ℕ → ℕ → ℕ → Request
-localOf s hold protect working command c =
-    localRequest (s .mask) protect working (commandOf hold command c) (waiting (waitOf s command) (asked (s .sent)))
+abbrev pub waitOf : Controller → Request → ℕ → ℕ
+waitOf s last command = waitNow (isClear command) (entersWait last) (isWait (last .code)) (s .w) (s .left)
 
 -- what is answered once it is decided what is sent
 abbrev pub answering : Controller → Accepted → Request → ℕ → ℕ → Outcome
@@ -65,14 +52,19 @@ answering s far sent now fateOfCommand =
       fate = fateOfCommand;
     }
 
--- a step that is not refused
+-- a step that is not refused, rule by rule
 unfoldable pub moved : Controller → ℕ → ℕ → List ℕ → ℕ → ℕ → Outcome
 moved s k1 k2 conditions command c =
     let protect = protection conditions in
-    let hold = held (asked (s .sent)) in
+    let last = asked (s .sent) in
     let far = accepting s (eqb protect 2) k1 k2 in
-    let sent = decided (far .request) (localOf s hold protect (drop 1 conditions) command c) in
-    answering s far sent (waitOf s command) (fateOf hold command c sent)
+    let hold = kept command (held last) in
+    let new = given command c in
+    let replaced = taken hold new in
+    let now = waitOf s last command in
+    let near = localRequest (s .mask) protect (drop 1 conditions) (standing replaced hold new) (waiting now last) in
+    let sent = decided (far .request) near in
+    answering s far sent now (fate command replaced (same sent new))
 
 unfoldable pub step : Controller → ℕ → ℕ → List ℕ → ℕ → ℕ → Outcome
 step s k1 k2 conditions command c =

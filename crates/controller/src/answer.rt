@@ -22,8 +22,7 @@ use request::selector;
 ghost use Prim.Native.Nat.{_≤_};
 ghost use Rattle.controller.specs.Refusals.{refusal};
 ghost use Rattle.controller.specs.Rules.{keepsBridge, same};
-ghost use Rattle.controller.specs.Step.{refused, answering, fateOf, localOf, moved};
-ghost use lib.ListN.{length, drop};
+ghost use Rattle.controller.specs.Step.{refused, answering, moved};
 ghost use mathlib.Core.Path.{_≡_};
 
 pub(crate) fn refused(k: u8, s: Controller) -> Outcome
@@ -85,47 +84,23 @@ fn answering(s: Controller, far: Accepted, sent: Request, wait: u16, fate: u8) -
     }
 }
 
-fn fate_of(hold: Request, command: u8, c: u8, sent: Request) -> u8
-    ensures { λ r. ⌜ r ≡ fateOf hold command c sent ⌝ }
-{
-    let kept_hold = kept(command, hold);
-    let new = given(command, c);
-    let replaced = taken(kept_hold, new);
-    fate(command, replaced, same(sent, new))
-}
-
-fn local_of(
-    s: Controller,
-    hold: Request,
-    protect: u8,
-    conditions: &[u8],
-    command: u8,
-    c: u8,
-) -> Request
-    requires { ⌜ length (now conditions) ≤ 16 ⌝ }
-    ensures { λ r. ⌜ r ≡ localOf s hold protect (drop 1 (now (conditions .entry))) command c ⌝ }
-{
-    let stands = standing(kept(command, hold), given(command, c));
-    let wait = waiting(wait_of(s, command), asked(s.sent));
-    local_request(s.mask, protect, conditions, stands, wait)
-}
-
 pub(crate) fn moved(s: Controller, k1: u8, k2: u8, conditions: &[u8], command: u8, c: u8) -> Outcome
     requires { ⌜ refusal s (now conditions) command c ≡ 0 ⌝ }
     ensures { λ r. ⌜ r ≡ moved s k1 k2 (now (conditions .entry)) command c ⌝ }
 {
     let protect = conditions[0];
-    let last = s.sent;
-    let hold = held(asked(last));
+    let k1_sent = s.sent;
+    let last = asked(k1_sent);
     let far = accepting(s, protect == 2, k1, k2);
-    let near = local_of(s, hold, protect, conditions, command, c);
+    let hold = kept(command, held(last));
+    let new = given(command, c);
+    let replaced = taken(hold, new);
+    let stands = standing(replaced, hold, new);
+    let now = wait_of(s, last, command);
+    let wait = waiting(now, last);
+    let near = local_request(s.mask, protect, conditions, stands, wait);
     let heard = far.request;
     let sent = decided(heard, near);
-    answering(
-        s,
-        far,
-        sent,
-        wait_of(s, command),
-        fate_of(hold, command, c, sent),
-    )
+    let fate = fate(command, replaced, same(sent, new));
+    answering(s, far, sent, now, fate)
 }

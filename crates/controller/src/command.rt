@@ -61,8 +61,8 @@ pub(crate) fn taken(hold: Request, new: Request) -> bool
     replaces(rank_of(hold), rank_of(new))
 }
 
-pub(crate) fn standing(hold: Request, new: Request) -> Request
-    ensures { λ r. ⌜ r ≡ standing hold new ⌝ }
+pub(crate) fn standing(replaced: bool, hold: Request, new: Request) -> Request
+    ensures { λ r. ⌜ r ≡ standing replaced hold new ⌝ }
 {
-    if taken(hold, new) { new } else { hold }
+    if replaced { new } else { hold }
 }

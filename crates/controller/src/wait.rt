@@ -1,6 +1,5 @@
 // The wait to restore (01, 'One step', rules 3 and 5).
 use crate::Controller;
-use crate::asked::asked;
 use crate::codes::DEGRADE_HIGH;
 use crate::codes::DEGRADE_LOW;
 use crate::codes::FAIL_HIGH;
@@ -32,10 +31,9 @@ fn enters_wait(last: Request) -> bool
 }
 
 // What is left of the wait in this step.
-pub(crate) fn wait_of(s: Controller, command: u8) -> u16
-    ensures { λ r. ⌜ r ≡ waitOf s command ⌝ }
+pub(crate) fn wait_of(s: Controller, last: Request, command: u8) -> u16
+    ensures { λ r. ⌜ r ≡ waitOf s last command ⌝ }
 {
-    let last = asked(s.sent);
     let entering = enters_wait(last);
     let running = is_wait(last.code);
     wait_now(command == 1, entering, running, s.w, s.left)

@@ -1,7 +1,7 @@
 //! The sequences that the paper spells out for the controller, and a few more
 //! in the same manner, step by step (paper: "Sequences on both sides").
 
-use super::{fresh, Given};
+use super::{fresh, numbers, Given};
 use crate::controller::Answer;
 use std::io::{self, Write};
 
@@ -189,16 +189,10 @@ fn write_step(out: &mut impl Write, given: Given, answer: &Answer) -> io::Result
         write!(out, "{condition}")?;
     }
     write!(out, " {} {}: ", given.command, given.channel)?;
+    let [refusal, k1, k2, bridge, selector, mark, fate] = numbers(answer);
     writeln!(
         out,
-        "{} {:02X} {:02X} {} {} {} {}",
-        answer.refusal,
-        answer.k1,
-        answer.k2,
-        answer.bridge,
-        answer.selector,
-        answer.mark,
-        answer.fate
+        "{refusal} {k1:02X} {k2:02X} {bridge} {selector} {mark} {fate}"
     )
 }
 

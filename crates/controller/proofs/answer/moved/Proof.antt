@@ -4,8 +4,9 @@ use native.Mathlib.Omega.{arith}
 use lib.Dec.{eqb}
 use lib.ListN.{drop}
 use Rattle.request.specs.declared.Request.{Request}
-use Rattle.controller.specs.Rules.{asked, accepting, held, decided}
-use Rattle.controller.specs.Step.{protection, waitOf, localOf, moved}
+use Rattle.controller.specs.Rules.{asked, accepting, held, kept, given, taken, standing, waiting, localRequest}
+use Rattle.controller.specs.Rules.{decided}
+use Rattle.controller.specs.Step.{protection, waitOf, moved}
 use Rattle.controller.proofs.Usability.{section-bounds}
 use Rattle.controller.proofs.Inputs.{WellFormed, well-formed}
 use Rattle.controller.proofs.Sendable.{sendable-room}
@@ -20,19 +21,44 @@ well c = well-formed (c .args .s) (c .args .conditions .now) (c .args .command) 
 -- what is sent, as the rules have it
 abbrev sentOf : tie.After-decided → Request
 sentOf c =
-    let a = c .before .before .before .before .before .before .before .before .args in
+    let a = c .before .before .before .before .before .before .before .before .before .before .before .before .before .before .args in
     let protect = protection (a .conditions .now) in
+    let last = asked (a .s .sent) in
+    let hold = kept (a .command) (held last) in
+    let new = given (a .command) (a .c) in
+    let wait = waiting (waitOf (a .s) last (a .command)) last in
     decided (accepting (a .s) (eqb protect 2) (a .k1) (a .k2) .request)
-    (localOf (a .s) (held (asked (a .s .sent))) protect (drop 1 (a .conditions .now)) (a .command) (a .c))
+    (localRequest (a .s .mask) protect (drop 1 (a .conditions .now)) (standing (taken hold new) hold new) wait)
+
+-- whether the new command has replaced the held one
+weighed : (c : tie.After-standing) →
+    let a = c .before .before .before .before .before .before .before .before .before .args in
+    c .before .taken .result ≡ taken (kept (a .command) (held (asked (a .s .sent)))) (given (a .command) (a .c))
+weighed c =
+    rw (
+      c .before .taken .ensures,
+      c .before .before .given .ensures,
+      c .before .before .before .kept .ensures,
+      c .before .before .before .before .held .ensures,
+      c .before .before .before .before .before .before .asked .ensures,
+    )
 
 sent-is : (c : tie.After-decided) → c .decided .result ≡ sentOf c
 sent-is c =
+    let near = c .before .before in
+    let stood = near .before .before .before in
     rw (
       c .decided .ensures,
-      c .before .before .local-of .ensures,
-      c .before .before .before .accepting .ensures,
-      c .before .before .before .before .held .ensures,
-      c .before .before .before .before .before .asked .ensures,
+      near .local-request .ensures,
+      near .before .waiting .ensures,
+      near .before .before .wait-of .ensures,
+      stood .standing .ensures,
+      weighed stood,
+      stood .before .before .given .ensures,
+      stood .before .before .before .kept .ensures,
+      stood .before .before .before .before .held .ensures,
+      stood .before .before .before .before .before .accepting .ensures,
+      stood .before .before .before .before .before .before .asked .ensures,
     )
 
 shared-slice-read-protect : tie.Need-shared-slice-read-protect
@@ -41,53 +67,73 @@ shared-slice-read-protect c = let number = well (c .before .before) .number in o
 asked-requires : tie.Need-asked-requires
 asked-requires c κs = search needs
 
+accepting-requires : tie.Need-accepting-requires
+accepting-requires c κs = well (c .before .before .before) .fits
+
 held-requires : tie.Need-held-requires
 held-requires c κs = search needs
 
-accepting-requires : tie.Need-accepting-requires
-accepting-requires c κs = well (c .before .before .before .before) .fits
+kept-requires : tie.Need-kept-requires
+kept-requires c κs = search needs
 
-local-of-requires : tie.Need-local-of-requires
-local-of-requires c κs =
-    let number = well (c .before .before .before .before .before) .number in
-    let bounds = section-bounds (c .before .before .before .before .before .args .s .n) (well (c .before .before .before .before .before) .fits) in
+given-requires : tie.Need-given-requires
+given-requires c κs = search needs
+
+taken-requires : tie.Need-taken-requires
+taken-requires c κs = search needs
+
+standing-requires : tie.Need-standing-requires
+standing-requires c κs = search needs
+
+wait-of-requires : tie.Need-wait-of-requires
+wait-of-requires c κs = search needs
+
+waiting-requires : tie.Need-waiting-requires
+waiting-requires c κs = search needs
+
+local-request-requires : tie.Need-local-request-requires
+local-request-requires c κs =
+    let start = c .before .before .before .before .before .before .before .before .before .before .before in
+    let number = well start .number in
+    let bounds = section-bounds (start .args .s .n) (well start .fits) in
     omega arith
 
 decided-requires : tie.Need-decided-requires
 decided-requires c κs = search needs
 
-wait-of-requires : tie.Need-wait-of-requires
-wait-of-requires c κs = search needs
+same-requires : tie.Need-same-requires
+same-requires c κs = search needs
 
-fate-of-requires : tie.Need-fate-of-requires
-fate-of-requires c κs = search needs
+fate-requires : tie.Need-fate-requires
+fate-requires c κs = search needs
 
 answering-requires : tie.Need-answering-requires
 answering-requires c κs =
-    let start = c .before .before .before .before .before .before .before .before .before .before in
+    let start = c .before .before .before .before .before .before .before .before .before .before .before .before .before .before .before .before in
     let a = start .args in
-    let room =
-    sendable-room (a .s .n) (a .s .mask) (waitOf (a .s) (a .command)) (sentOf (c .before .before)) (well start .fits)
-    (sent-sendable (a .s) (a .conditions .now) (a .command) (a .c) (well start) (eqb (protection (a .conditions .now)) 2)
-    (a .k1) (a .k2)) in
-    let far =
-    far-channel (a .s) (a .conditions .now) (a .command) (a .c) (well start) (eqb (protection (a .conditions .now)) 2) (a .k1)
-    (a .k2) in
+    let failed = eqb (protection (a .conditions .now)) 2 in
+    let able = sent-sendable (a .s) (a .conditions .now) (a .command) (a .c) (well start) failed (a .k1) (a .k2) in
+    let now = waitOf (a .s) (asked (a .s .sent)) (a .command) in
+    let room = sendable-room (a .s .n) (a .s .mask) now (sentOf (c .before .before)) (well start .fits) able in
+    let far = far-channel (a .s) (a .conditions .now) (a .command) (a .c) (well start) failed (a .k1) (a .k2) in
     let bounds = section-bounds (a .s .n) (well start .fits) in
-    rw (sent-is (c .before .before), c .before .before .before .before .before .accepting .ensures)
+    rw (sent-is (c .before .before), c .before .before .before .before .before .before .before .before .before .before .before .before .accepting .ensures)
     (room .0, omega arith, omega arith)
 
 returns : tie.Need-returns
 unfolding moved
 returns c =
+    let waited = c .before .before .before .before .before .before .before in
     rw (
       c .answering .ensures,
-      c .before .fate-of .ensures,
-      c .before .before .wait-of .ensures,
+      c .before .fate .ensures,
+      c .before .before .same .ensures,
       sent-is (c .before .before .before),
-      c .before .before .before .before .before .before .accepting .ensures,
-      c .before .before .before .before .before .before .before .held .ensures,
-      c .before .before .before .before .before .before .before .before .asked .ensures,
+      weighed (waited .before),
+      waited .wait-of .ensures,
+      c .before .before .before .before .before .before .before .before .before .before .given .ensures,
+      c .before .before .before .before .before .before .before .before .before .before .before .before .before .accepting .ensures,
+      c .before .before .before .before .before .before .before .before .before .before .before .before .before .before .asked .ensures,
     )
 
 pub moved-spec : {M : Type 1} → statement M
@@ -96,11 +142,17 @@ moved-spec =
     (tie.spec
     shared-slice-read-protect
     asked-requires
-    held-requires
     accepting-requires
-    local-of-requires
-    decided-requires
+    held-requires
+    kept-requires
+    given-requires
+    taken-requires
+    standing-requires
     wait-of-requires
-    fate-of-requires
+    waiting-requires
+    local-request-requires
+    decided-requires
+    same-requires
+    fate-requires
     answering-requires
     returns)

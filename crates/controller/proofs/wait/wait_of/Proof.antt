@@ -3,9 +3,6 @@ use borrow.Author.Needs.{needs}
 use Rattle.controller.proofs.wait.wait_of.Statement.{statement}
 use Rattle.controller.proofs.wait.wait_of.Tie as tie
 
-asked-requires : tie.Need-asked-requires
-asked-requires c κs = search needs
-
 enters-wait-requires : tie.Need-enters-wait-requires
 enters-wait-requires c κs = search needs
 
@@ -17,14 +14,7 @@ wait-now-requires c κs = search needs
 
 returns : tie.Need-returns
 returns c =
-    rw (
-      c .wait-now .ensures,
-      c .before .is-wait .ensures,
-      c .before .before .enters-wait .ensures,
-      c .before .before .before .asked .ensures,
-    )
+    rw (c .wait-now .ensures, c .before .is-wait .ensures, c .before .before .enters-wait .ensures)
 
 pub wait-of-spec : {M : Type 1} → statement M
-wait-of-spec =
-    tie.close
-    (tie.spec asked-requires enters-wait-requires is-wait-requires wait-now-requires returns)
+wait-of-spec = tie.close (tie.spec enters-wait-requires is-wait-requires wait-now-requires returns)
