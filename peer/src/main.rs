@@ -5,28 +5,35 @@
 //! misreading agree with each other and prove nothing. Every landing that
 //! changes this package keeps it that way.
 //!
-//! One reading was not reached so: that of `pair::rank` for a channel that no
-//! group has, where the paper is silent. It was settled for both, and their
-//! agreement there is no evidence.
+//! Two points were not reached so: what `pair::rank` answers for a channel that
+//! no group has, and `book::body` for an entry whose body is not all in the
+//! book. The paper is silent there. What is answered was settled for both
+//! programs, and their agreement on it is no evidence.
 //!
-//! The two are compared by what they print. Where they differ, neither has
+//! The programs are compared by what they print: `sequences` for the byte pair and
+//! the controller, `trials` for the capture book. Where they differ, neither has
 //! precedence: the paper decides which one is wrong.
 
+mod book;
 mod controller;
 mod pair;
 mod sequences;
+mod trials;
 
 use std::ffi::OsString;
-use std::io::{self, BufWriter, Write};
+use std::io::{self, BufWriter, StdoutLock, Write};
 use std::process::ExitCode;
 
-const USAGE: &str = "usage: peer sequences";
+const USAGE: &str = "usage: peer sequences | trials";
+
+type Printer = BufWriter<StdoutLock<'static>>;
 
 fn main() -> ExitCode {
     // `args_os`, because a word that is not Unicode is still only a wrong word.
     let words: Vec<OsString> = std::env::args_os().skip(1).collect();
     match words.as_slice() {
-        [word] if word == "sequences" => finish(print_sequences()),
+        [word] if word == "sequences" => finish(print(sequences::write)),
+        [word] if word == "trials" => finish(print(trials::write)),
         _ => {
             complain(USAGE);
             ExitCode::from(2)
@@ -34,9 +41,9 @@ fn main() -> ExitCode {
     }
 }
 
-fn print_sequences() -> io::Result<()> {
+fn print(write: fn(&mut Printer) -> io::Result<()>) -> io::Result<()> {
     let mut out = BufWriter::new(io::stdout().lock());
-    sequences::write(&mut out)?;
+    write(&mut out)?;
     out.flush()
 }
 

@@ -1,13 +1,13 @@
 -- Laws of big-endian numbers: past the end nothing is read and nothing is written; two runs of writes,
 -- one behind the other, are one; what was written is read back.
 use mathlib.Core.Path.{_≡_, refl, sym, ap, _∙_}
-use mathlib.Core.List.{List, [], _∷_, _++_}
-use Prim.Native.Nat.{ℕ, suc, _+_, _≤_, _<_, _/_, _%_}
-use native.Mathlib.Nat.{add-zero, add-suc, suc-add}
+use mathlib.Core.List.{List, [], _∷_, _++_, append-assoc}
+use Prim.Native.Nat.{ℕ, suc, _+_, _-_, _≤_, _<_, _/_, _%_}
+use native.Mathlib.Nat.{add-zero, zero-add, add-suc, suc-add}
 use native.Mathlib.Numerals.{add-one}
 use native.Mathlib.Omega.{arith}
-use lib.ListN.{length, getD, set, length-set, List·getD-eq-default}
-use lib.Seq.{set-out, sets, length-sets, getD-set-same, getD-set-other}
+use lib.ListN.{length, getD, set, take, drop, length-set, length-drop, List·getD-eq-default}
+use lib.Seq.{set-out, sets, sets-eq, length-sets, getD-set-same, getD-set-other, drop-drop, take-all}
 use Rattle.basics.specs.Bytes.{twoAt, fourAt, twoBytes, fourBytes}
 
 pub two-past : (bytes : List ℕ) (at : ℕ) → length bytes ≤ at → twoAt bytes at ≡ 0
@@ -39,6 +39,18 @@ pub sets-joined : (us vs bytes between after : List ℕ) (at : ℕ)
     → between ≡ sets bytes at us → after ≡ sets between (at + length us) vs → after ≡ sets bytes at (us ++ vs)
 sets-joined us vs bytes between after at first second =
     second ∙ ap (λ (l : List ℕ). sets l (at + length us) vs) first ∙ sets-append us vs bytes at
+
+-- the part of a list from a place on, as a slice is cut
+pub rest-part : (at : ℕ) (bytes : List ℕ) → take (length bytes - at) (drop at bytes) ≡ drop at bytes
+rest-part at bytes = take-all (length bytes - at) (drop at bytes) (simp length-drop (omega arith))
+
+-- what is written at the start of a part, the part starting at a place, is written at that place
+pub sets-part : (values bytes : List ℕ) (at : ℕ) → at + length values ≤ length bytes
+    → take at bytes ++ sets (drop at bytes) 0 values ≡ sets bytes at values
+sets-part values bytes at h =
+    let fits : 0 + length values ≤ length (drop at bytes) = simp length-drop (omega arith) in
+    rw (sets-eq values (drop at bytes) 0 fits, sets-eq values bytes at h, drop-drop (0 + length values) at bytes, zero-add)
+    (sym (append-assoc (take at bytes) values (drop (at + length values) bytes)))
 
 -- what is written from a place on leaves the bytes before it
 before-sets : (values bytes : List ℕ) (at k : ℕ) → k < at → getD (sets bytes at values) k 0 ≡ getD bytes k 0

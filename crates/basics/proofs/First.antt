@@ -1,12 +1,14 @@
 -- Laws of the first number that applies. Numbers that count on from 1, as the marks do, name the place of the check.
 use mathlib.Core.Path.{_≡_, refl, sym, _∙_}
-use mathlib.Core.Bool.{Bool, true, false, false≢true, true≢false}
-use mathlib.Core.List.{List, [], _∷_}
+use mathlib.Core.Bool.{Bool, true, false, _&&_, and-eq-true-iff, false≢true, true≢false}
+use mathlib.Core.List.{List, [], _∷_, _++_}
 use mathlib.Core.Logic.{_↔_, _⊎_, inl, inr, ⊎-elim}
 use Prim.Native.Nat.{ℕ, zero, suc, _+_, _<_, _≤_, zero-le, suc-le-suc}
 use native.Mathlib.Nat.{add-zero, add-suc, suc-add, le-of-suc-le-suc, not-suc-le-zero}
 use native.Mathlib.Omega.{arith}
-use Rattle.basics.specs.First.{Check, _when_, firstOf, appliesAt, FirstAt}
+use lib.Dec.{ltb}
+use borrow.Author.Tests.{ltb-true}
+use Rattle.basics.specs.First.{Check, _when_, firstOf, appliesAt, FirstAt, numberOf}
 
 -- the checks bear the numbers k, k + 1, and so on
 abbrev pub CountedFrom : ℕ → List Check → Type 0
@@ -58,17 +60,56 @@ first-exact checks counted i = (
   λ f. first-number 1 checks counted i f ∙ omega arith,
 )
 
--- and 0 exactly where none applies
-pub none-exact : (k : ℕ) (checks : List Check) → CountedFrom (suc k) checks
+-- none of the checks bears the number 0
+abbrev pub numbered : List Check → Bool
+numbered [] = true
+numbered ((m when t) ∷ rest) = ltb 0 m && numbered rest
+
+numbered-both : (m : ℕ) (rest : List Check) → (ltb 0 m && numbered rest) ≡ true → (0 < m) × (numbered rest ≡ true)
+numbered-both m rest e =
+    let both = and-eq-true-iff (ltb 0 m) (numbered rest) .0 e in (ltb-true 0 m (both .0), both .1)
+
+-- then 0 is answered exactly where none applies
+pub none-exact : (checks : List Check) → numbered checks ≡ true
     → (firstOf checks ≡ 0) ↔ ((i : ℕ) → appliesAt checks i ≡ false)
-none-exact k [] counted = (λ e i. refl, λ none. refl)
-none-exact k ((m when true) ∷ rest) counted =
-    (λ e. let c = counted .0 in absurd (omega arith), λ none. absurd (true≢false (none 0)))
-none-exact k ((m when false) ∷ rest) counted =
-    let ih = none-exact (suc k) rest (counted .1) in
+none-exact [] named = (λ e i. refl, λ none. refl)
+none-exact ((m when true) ∷ rest) named =
+    (λ e. let pos = numbered-both m rest named .0 in absurd (omega arith), λ none. absurd (true≢false (none 0)))
+none-exact ((m when false) ∷ rest) named =
+    let ih = none-exact rest (numbered-both m rest named .1) in
     (forward ih, λ none. ih .1 (λ i. none (suc i)))
   where
     forward : ((firstOf rest ≡ 0) ↔ ((i : ℕ) → appliesAt rest i ≡ false))
         → firstOf rest ≡ 0 → (i : ℕ) → appliesAt ((m when false) ∷ rest) i ≡ false
     forward ih e zero = refl
     forward ih e (suc i) = ih .0 e i
+
+-- behind checks of which none applies, the first is that of the rest; else it stays what it was
+pub first-behind : (checks rest : List Check) → numbered checks ≡ true → firstOf checks ≡ 0
+    → firstOf (checks ++ rest) ≡ firstOf rest
+first-behind [] rest named e = refl
+first-behind ((m when true) ∷ checks) rest named e =
+    let pos = numbered-both m checks named .0 in absurd (omega arith)
+first-behind ((m when false) ∷ checks) rest named e =
+    first-behind checks rest (numbered-both m checks named .1) e
+
+pub none-both : (checks rest : List Check) → numbered checks ≡ true → firstOf (checks ++ rest) ≡ 0
+    → (firstOf checks ≡ 0) × (firstOf rest ≡ 0)
+none-both [] rest named e = (refl, e)
+none-both ((m when true) ∷ checks) rest named e =
+    let pos = numbered-both m checks named .0 in absurd (omega arith)
+none-both ((m when false) ∷ checks) rest named e = none-both checks rest (numbered-both m checks named .1) e
+
+pub first-before : (checks rest : List Check) → (firstOf checks ≡ 0 → ⊥) → firstOf (checks ++ rest) ≡ firstOf checks
+first-before [] rest some = absurd (some refl)
+first-before ((m when true) ∷ checks) rest some = refl
+first-before ((m when false) ∷ checks) rest some = first-before checks rest some
+
+-- what is answered, if not 0, is the number of the first check that applies
+pub first-applies : (checks : List Check) → (firstOf checks ≡ 0 → ⊥)
+    → (i : ℕ) × FirstAt checks i × (firstOf checks ≡ numberOf checks i)
+first-applies [] some = absurd (some refl)
+first-applies ((m when true) ∷ rest) some =
+    (0, record { applies = refl; none-before = λ j h. absurd (not-suc-le-zero h) }, refl)
+first-applies ((m when false) ∷ rest) some =
+    let later = first-applies rest some in (suc (later .0), skip (later .1), later .2)

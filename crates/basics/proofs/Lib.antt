@@ -3,5 +3,6 @@ pub mod Tests
 pub mod Table
 pub mod First
 pub mod Bytes
+pub mod Fields
 pub mod One
 mod Theorems

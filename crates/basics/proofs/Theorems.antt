@@ -7,11 +7,11 @@ use Prim.Native.Nat.{ℕ, _+_, _<_}
 use lib.ListN.{length, getD}
 use lib.Seq.{sets}
 use denote.Ref.{now}
-use Rattle.basics.specs.First.{Check, firstOf, appliesAt, FirstAt}
+use Rattle.basics.specs.First.{Check, firstOf, appliesAt, numberOf, FirstAt}
 use Rattle.basics.specs.Answer.{Answers}
 use Rattle.basics.specs.Bytes.{twoAt, fourAt, twoBytes, fourBytes}
 use Rattle.basics.proofs.Table.{every, at-entry, values, entry-is}
-use Rattle.basics.proofs.First.{CountedFrom, first-exact, none-exact}
+use Rattle.basics.proofs.First.{CountedFrom, first-exact, numbered, none-exact, first-applies}
 use Rattle.basics.proofs.Bytes.{two-back, four-back}
 use Rattle.basics.proofs.One.{OneAnswer, OneContent, one-value, one-case}
 use Rattle.basics.proofs.two_at.Kinds as two-at-kinds
@@ -31,13 +31,18 @@ four-right : (bytes : List ℕ) (at v : ℕ) → at + 3 < length bytes → fourA
 four-right = four-back
 
 -- Of checks numbered 1, 2, 3, .., the number i + 1 is answered exactly where the check at place i is the first to
--- apply, and 0 exactly where none applies.
+-- apply; and 0 exactly where none applies, if no check bears that number.
 first-right : (checks : List Check) → CountedFrom 1 checks → (i : ℕ) → (firstOf checks ≡ i + 1) ↔ FirstAt checks i
 first-right = first-exact
 
-first-complete : (checks : List Check) → CountedFrom 1 checks
+first-complete : (checks : List Check) → numbered checks ≡ true
     → (firstOf checks ≡ 0) ↔ ((i : ℕ) → appliesAt checks i ≡ false)
-first-complete = none-exact 0
+first-complete = none-exact
+
+-- Whatever their numbers, what is answered and is not 0 is the number of the first check to apply.
+first-numbered : (checks : List Check) → (firstOf checks ≡ 0 → ⊥)
+    → (i : ℕ) × FirstAt checks i × (firstOf checks ≡ numberOf checks i)
+first-numbered = first-applies
 
 -- A test that is computed once over a whole list holds at each entry, and a table that computes to the values of a
 -- function has them at each entry.

@@ -1,6 +1,7 @@
--- What the crates above share: choice on a test, the first number that applies, what an answer promises, and
--- big-endian numbers.
+-- What the crates above share: choice on a test, the first number that applies, what an answer promises,
+-- big-endian numbers, and fields of them one behind the other.
 pub mod Choice
 pub mod First
 pub mod Answer
 pub mod Bytes
+pub mod Fields

@@ -34,7 +34,7 @@ pub well-formed : (s : Controller) (conditions : List ℕ) (command c : ℕ) →
     → WellFormed s conditions command c
 unfolding refusal
 well-formed s conditions command c h =
-    let none = none-exact 0 (faults s conditions command c) (faults-counted s conditions command c) .0 h in
+    let none = none-exact (faults s conditions command c) refl .0 h in
     record {
       fits = not-false (sectionsFit (s .n)) (none 0);
       mask-fits = not-false (maskFits (s .n) (s .mask)) (none 1);

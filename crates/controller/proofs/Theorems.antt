@@ -59,7 +59,7 @@ refusals-complete : (s : Controller) (conditions : List ℕ) (command c : ℕ)
     → (refusal s conditions command c ≡ 0) ↔ ((i : ℕ) → appliesAt (faults s conditions command c) i ≡ false)
 unfolding refusal
 refusals-complete s conditions command c =
-    none-exact 0 (faults s conditions command c) (faults-counted s conditions command c)
+    none-exact (faults s conditions command c) refl
 
 refused-right : (s : Controller) (k1 k2 : ℕ) (conditions : List ℕ) (command c : ℕ)
     → (refusal s conditions command c ≡ 0 → ⊥)

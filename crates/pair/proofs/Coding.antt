@@ -115,7 +115,7 @@ faults-counted n k1 k2 = (refl, (refl, (refl, (refl, (refl, tt)))))
 pub unmarked : (n k1 k2 : ℕ) → sectionsFit n ≡ true → mark n k1 k2 ≡ 0 → UsablePair n k1 k2
 unfolding mark
 unmarked n k1 k2 fits h =
-    let none = none-exact 0 (faults n k1 k2) (faults-counted n k1 k2) .0 h in
+    let none = none-exact (faults n k1 k2) refl .0 h in
     let bit : bit5 k2 ≡ 0 → ⊥ = eqb-false (bit5 k2) 0 (none 0) in
     let below : bridgedOf k2 ≤ n = ltb-false n (bridgedOf k2) (none 4) in
     record {

@@ -1,5 +1,5 @@
 -- The front door: what is proved of the coder, each theorem in full with the line that cites its proof.
-use mathlib.Core.Path.{_≡_}
+use mathlib.Core.Path.{_≡_, refl}
 use mathlib.Core.Bool.{true, false}
 use mathlib.Core.Logic.{_↔_}
 use Prim.Native.Nat.{ℕ, _+_, _<_}
@@ -48,7 +48,7 @@ marks-right n k1 k2 = first-exact (faults n k1 k2) (faults-counted n k1 k2)
 
 marks-complete : (n k1 k2 : ℕ) → (mark n k1 k2 ≡ 0) ↔ ((i : ℕ) → appliesAt (faults n k1 k2) i ≡ false)
 unfolding mark
-marks-complete n k1 k2 = none-exact 0 (faults n k1 k2) (faults-counted n k1 k2)
+marks-complete n k1 k2 = none-exact (faults n k1 k2) refl
 
 -- The request of a usable pair stands in a row of the table, and has the rank of each row that it stands in.
 row-complete : (n k1 k2 : ℕ) (p : Pair) → decodingCase (decoding n k1 k2) ≡ decoded.Usable p

@@ -1,16 +1,16 @@
 // The coder over every byte: what each K1 and each K2 decodes to, and how many pairs and records come to each answer.
-use crate::text::print;
-use crate::text::print_byte;
-use crate::text::print_digit;
-use crate::text::print_labelled;
-use crate::text::print_list;
-use crate::text::print_number;
 use pair::Decoded;
 use pair::Encoded;
 use pair::Pair;
 use pair::decode;
 use pair::encode;
 use pair::request::rank;
+use text::print;
+use text::print_byte;
+use text::print_digit;
+use text::print_labelled;
+use text::print_list;
+use text::print_number;
 
 // Which byte of the pair a grid goes through, and for how many sections.
 struct Grid {

@@ -3,7 +3,6 @@ mod coder;
 mod refusals;
 mod steps;
 mod table;
-mod text;
 mod walks;
 
 fn main() {

@@ -1,16 +1,16 @@
 // Refusals 1 to 7: each alone, two at once, and what of a record or of a command is refused.
 use crate::steps::start;
-use crate::text::print;
-use crate::text::print_byte;
-use crate::text::print_hex;
-use crate::text::print_labelled;
-use crate::text::print_list;
-use crate::text::print_number;
-use crate::text::print_pair;
 use crate::walks::counted;
 use controller::Controller;
 use controller::Made;
 use controller::Outcome;
+use text::print;
+use text::print_byte;
+use text::print_hex;
+use text::print_labelled;
+use text::print_list;
+use text::print_number;
+use text::print_pair;
 
 fn print_fresh(n: u8, mask: u16) {
     print_number(n as u64);

@@ -1,14 +1,14 @@
 // Steps of one controller: the paper's sequences, and some with commands, a line a step.
-use crate::text::print;
-use crate::text::print_byte;
-use crate::text::print_digit;
-use crate::text::print_labelled;
-use crate::text::print_list;
-use crate::text::print_number;
-use crate::text::print_pair;
 use controller::Controller;
 use controller::Made;
 use controller::Outcome;
+use text::print;
+use text::print_byte;
+use text::print_digit;
+use text::print_labelled;
+use text::print_list;
+use text::print_number;
+use text::print_pair;
 
 pub(crate) fn start(n: u8, mask: u16, w: u16) -> Controller {
     match Controller::fresh(n, mask, w) {

@@ -1,10 +1,10 @@
 // Table 7-4 as corrected in document 003: both ends, a row a step, W = 1 so that the wait takes one row.
 use crate::steps::start;
-use crate::text::print;
-use crate::text::print_byte;
-use crate::text::print_labelled;
-use crate::text::print_list;
 use controller::Controller;
+use text::print;
+use text::print_byte;
+use text::print_labelled;
+use text::print_list;
 
 // One end: its record, the bytes that it sent last, and its selector.
 struct End {

@@ -1,12 +1,12 @@
 // Long walks of one controller over drawn inputs, for comparison with the peer: counts, and a sum over all that is answered.
 use crate::steps::start;
-use crate::text::print;
-use crate::text::print_byte;
-use crate::text::print_labelled;
-use crate::text::print_list;
-use crate::text::print_number;
 use controller::Controller;
 use controller::Outcome;
+use text::print;
+use text::print_byte;
+use text::print_labelled;
+use text::print_list;
+use text::print_number;
 
 const STEPS: u32 = 20000;
 

@@ -1,0 +1,106 @@
+-- The bytes of a whole book: how many there are, and that the writer's parts put one behind the other are they.
+use mathlib.Core.Path.{_≡_, refl, ap, _∙_}
+use mathlib.Core.List.{List, [], _∷_, _++_}
+use Prim.Native.Nat.{ℕ, suc, _+_, _*_}
+use native.Mathlib.Nat.{zero-add}
+use native.Mathlib.Omega.{arith}
+use lib.ListN.{length, set, drop, length-append, length-set}
+use lib.Seq.{sets, sets-eq, length-sets}
+use borrow.Author.Tests.{ne-eqb}
+use Rattle.basics.specs.Answer.{Answers}
+use Rattle.basics.proofs.Bytes.{sets-joined}
+use Rattle.book.specs.Format.{entryBytes, firstBody, bodyEnd, placed, contentsBytes, bookOf}
+use Rattle.book.specs.Writer.{counted, size, writeRefusal, writingTold, writingCase, writing, output}
+use Rattle.book.specs.declared.Entry.{Entry}
+use Rattle.book.specs.declared.Contents.{Contents}
+use Rattle.book.specs.declared.Writing.the-variants as answer
+use Rattle.book.proofs.Refusals.{writable}
+use Rattle.book.proofs.Counted.{length-counted}
+use Rattle.book.proofs.Filling.{length-entry}
+
+pub length-placed : (at : ℕ) (entries : List Entry) → length (placed at entries) ≡ length entries
+unfolding placed
+length-placed at [] = refl
+length-placed at (e ∷ rest) = ap suc (length-placed (bodyEnd at e) rest)
+
+pub length-contents : (entries : List Entry) → length (contentsBytes entries) ≡ 12 * length entries
+unfolding contentsBytes
+length-contents [] = refl
+length-contents (e ∷ rest) =
+    length-append (entryBytes e) (contentsBytes rest) ∙ omega (arith, length-entry e, length-contents rest)
+
+length-first : (at : ℕ) (entries : List Entry) → length (contentsBytes (placed at entries)) ≡ 12 * length entries
+length-first at entries = length-contents (placed at entries) ∙ ap (λ (n : ℕ). 12 * n) (length-placed at entries)
+
+pub length-book : (entries : List Entry) (bodies : List ℕ)
+    → length (bookOf entries bodies) ≡ firstBody (length entries) + length bodies
+unfolding bookOf
+length-book entries bodies =
+    let contents = contentsBytes (placed (firstBody (length entries)) entries) in
+    omega (arith, length-append contents bodies, length-first (firstBody (length entries)) entries)
+
+-- what the two first bytes and the contents leave of an output
+abbrev pub withContents : Contents → List ℕ → List ℕ
+withContents contents out =
+    sets (set (set out 0 1) 1 (contents .count)) 2
+    (contentsBytes (placed (firstBody (contents .count)) (counted contents)))
+
+pub length-filled : (contents : Contents) (out : List ℕ) → length (withContents contents out) ≡ length out
+length-filled contents out =
+    length-sets (set (set out 0 1) 1 (contents .count)) 2
+    (contentsBytes (placed (firstBody (contents .count)) (counted contents)))
+    ∙ length-set (set out 0 1) 1 (contents .count)
+    ∙ length-set out 0 1
+
+module _ (contents : Contents) (bodies out filled after : List ℕ) (first : filled ≡ withContents contents out)
+    (second : after ≡ sets filled (firstBody (contents .count)) bodies) where
+  pub length-after : length after ≡ length out
+  length-after =
+      ap length second
+      ∙ length-sets filled (firstBody (contents .count)) bodies
+      ∙ ap length first
+      ∙ length-filled contents out
+
+  pub book-written : writeRefusal contents (length bodies) (length out) ≡ 0
+      → after ≡ bookOf (counted contents) bodies ++ drop (size contents (length bodies)) out
+  unfolding bookOf
+  book-written e =
+      let w = writable contents (length bodies) (length out) e in
+      let k = length-counted (contents .count) (contents .entries) in
+      let parts = contentsBytes (placed (firstBody (contents .count)) (counted contents)) in
+      let start = set (set out 0 1) 1 (contents .count) in
+      let behind : firstBody (contents .count) ≡ 2 + length parts =
+      omega (arith, length-first (firstBody (contents .count)) (counted contents), k) in
+      let joined : after ≡ sets start 2 (parts ++ bodies) =
+      sets-joined parts bodies start filled after 2 first (second ∙ ap (λ (n : ℕ). sets filled n bodies) behind) in
+      let whole : 1 ∷ contents .count ∷ parts ++ bodies ≡ bookOf (counted contents) bodies = rw k in
+      let long : length (bookOf (counted contents) bodies) ≡ size contents (length bodies) =
+      length-book (counted contents) bodies ∙ ap (λ (n : ℕ). firstBody n + length bodies) k in
+      joined
+      ∙ ap (sets out 0) whole
+      ∙ sets-eq (bookOf (counted contents) bodies) out 0 (omega (arith, long, w .roomy))
+      ∙ ap (λ (n : ℕ). bookOf (counted contents) bodies ++ drop n out) (zero-add (length (bookOf (counted contents) bodies)) ∙ long)
+
+-- what the writer answers, and what the output then holds, where it refuses nothing and where it refuses
+module _ (contents : Contents) (bodies out : List ℕ) where
+  pub written-answer : (n : ℕ) → writeRefusal contents (length bodies) (length out) ≡ 0
+      → n ≡ size contents (length bodies)
+      → Answers writingTold writingCase (writing contents (length bodies) (length out)) (answer.Written n)
+  unfolding writing
+  written-answer n e sized = rw (e, sized) (record { numbers = refl; decided = refl })
+
+  pub written-output : writeRefusal contents (length bodies) (length out) ≡ 0
+      → bookOf (counted contents) bodies ++ drop (size contents (length bodies)) out ≡ output contents bodies out
+  unfolding output
+  written-output e = rw e
+
+  module _ (number : ℕ) (e : number ≡ writeRefusal contents (length bodies) (length out)) (some : number ≡ 0 → ⊥) where
+    pub refused-answer :
+        Answers writingTold writingCase (writing contents (length bodies) (length out)) (answer.Refused number)
+    unfolding writing
+    refused-answer =
+        rw (← e, ne-eqb number 0 some) (record { numbers = refl; decided = rw (ne-eqb number 0 some) })
+
+    pub refused-output : out ≡ output contents bodies out
+    unfolding output
+    refused-output = rw (← e, ne-eqb number 0 some)

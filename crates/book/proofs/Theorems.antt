@@ -1,0 +1,97 @@
+-- The front door: what is proved of capture books, each theorem in full with the line that cites its proof.
+use mathlib.Core.Path.{_≡_, refl, sym}
+use mathlib.Core.Bool.{true}
+use mathlib.Core.List.{List, _++_}
+use mathlib.Core.Logic.{_↔_, _⊎_}
+use Prim.Native.Nat.{ℕ, _+_, _*_, _≤_, _<_}
+use native.Mathlib.Omega.{arith}
+use lib.Dec.{eqb}
+use lib.ListN.{length, getD, take, drop}
+use denote.Ref.{now}
+use Rattle.basics.specs.Fields.{sizeOf}
+use Rattle.basics.proofs.One.{OneAnswer, OneContent, OnePart, one-value, one-case}
+use Rattle.basics.proofs.Table.{every}
+use Rattle.book.specs.Format.{countIn, layout, entriesOf, firstBody, IsBook, bodyOf, joined, places, placed}
+use Rattle.book.specs.Reader.{refusal, reading}
+use Rattle.book.specs.Writer.{counted, stepsOf, size, writeRefusal, writing, output}
+use Rattle.book.specs.declared.Contents.{Contents}
+use Rattle.book.proofs.Ordered.{order-ends, Refused, book-exact, refused-or-book, refused-no-book}
+use Rattle.book.proofs.Trips.{read-again, written-again}
+use Rattle.book.proofs.read.Kinds as read-kinds
+use Rattle.book.proofs.read.Reads as read-fn
+use Rattle.book.proofs.read.Statement as read-statement
+use Rattle.book.proofs.read.Met as read-met
+use Rattle.book.proofs.body.Kinds as body-kinds
+use Rattle.book.proofs.body.Reads as body-fn
+use Rattle.book.proofs.body.Statement as body-statement
+use Rattle.book.proofs.body.Met as body-met
+use Rattle.book.proofs.write.Kinds as write-kinds
+use Rattle.book.proofs.write.Reads as write-fn
+use Rattle.book.proofs.write.Statement as write-statement
+use Rattle.book.proofs.write.Met as write-met
+
+-- Reading, the body of a capture, and writing answer what their definitions say, for every input. (`statement` is the
+-- contract, as the checker reads it off the source; it asks nothing of the caller.)
+read-right : {M : Type 1} → read-statement.statement M
+read-right = read-met.met
+
+body-right : {M : Type 1} → body-statement.statement M
+body-right = body-met.met
+
+write-right : {M : Type 1} → write-statement.statement M
+write-right = write-met.met
+
+-- Two answers that the promise of a public function allows are equal, and so are two contents of the output. (`Post` is
+-- the function's `ensures`. A body is a part of the book's own slice; what is decided of it is its bytes.)
+read-unique : OneAnswer 1 read-kinds.ps read-kinds.r read-fn.Post
+read-unique κs args x y s t p q = one-value p q
+
+body-unique : OnePart 1 body-kinds.ps body-kinds.r body-fn.Post (λ κs part. now part)
+body-unique κs args x y s t p q = one-value p q
+
+write-unique : OneAnswer 2 write-kinds.ps write-kinds.r write-fn.Post
+write-unique κs args x y s t p q = one-case (p .0) (q .0)
+
+output-unique : OneContent 2 write-kinds.ps write-kinds.r write-fn.Post (λ κs exit. now (exit .1 .1 .0))
+output-unique κs args x y s t p q = one-value (p .1) (q .1)
+
+-- Exactly one of two: the first check that applies, in the paper's order, gives the refusal; or the bytes are a book, its
+-- bodies in order without gaps, the first at 2 + 12k, the last ending with it.
+one-of-two : (book : List ℕ) → Refused book ⊎ IsBook book
+one-of-two = refused-or-book
+
+not-both : (book : List ℕ) → Refused book → IsBook book → ⊥
+not-both = refused-no-book
+
+refusal-exact : (book : List ℕ) → (refusal book ≡ 0) ↔ IsBook book
+refusal-exact = book-exact
+
+-- An entry takes 12 bytes, and a book 2 + 12k + 4 for each step; so none has more than 65,534.
+entry-size : sizeOf layout ≡ 12
+entry-size = refl
+
+book-size : (book : List ℕ) → IsBook book → length book ≡ firstBody (countIn book) + 4 * stepsOf (entriesOf book)
+book-size book b = sym (order-ends (length book) (firstBody (countIn book)) (entriesOf book) (b .order))
+
+book-largest : (book : List ℕ) → IsBook book → length book ≤ 65534
+book-largest book b = let long = book-size book b in omega (arith, b .small)
+
+-- A book that is read and written again is that book, byte for byte, at the start of the output, with the rest of the
+-- output as it was. (The bodies are what `body` hands out for the entries that were read, joined.)
+read-write : (book out : List ℕ) → ((i : ℕ) → getD book i 0 < 256) → reading book .refusal ≡ 0 → length book ≤ length out →
+    let contents = reading book .contents in
+    let bodies = joined book (counted contents) in
+    (writing contents (length bodies) (length out) ≡ record { refusal = 0; bytes = length book })
+    × (output contents bodies out ≡ book ++ drop (length book) out)
+read-write = read-again
+
+-- What was written is read as it was handed in: n, mask, W and steps of each entry, spare 0, the offsets where the bodies
+-- belong, zeros past the count; and its bodies are those that were handed in, each with four bytes a step.
+write-read : (contents : Contents) (bodies out : List ℕ) → writeRefusal contents (length bodies) (length out) ≡ 0 →
+    let book = take (size contents (length bodies)) (output contents bodies out) in
+    let entries = placed (firstBody (contents .count)) (counted contents) in
+    (reading book
+    ≡ record { refusal = 0; contents = record { count = contents .count; entries = places entries } })
+    × (joined book entries ≡ bodies)
+    × (every (λ e. eqb (length (bodyOf book e)) (4 * e .steps)) entries ≡ true)
+write-read = written-again

@@ -1,0 +1,270 @@
+-- Round trips: what is read and written again, and what is written and read again.
+use mathlib.Core.Path.{_≡_, refl, sym, ap, _∙_}
+use mathlib.Core.Bool.{Bool, true, false}
+use mathlib.Core.List.{List, [], _∷_, _++_, append-assoc}
+use Prim.Native.Nat.{ℕ, zero, suc, _+_, _*_, _≤_, _<_}
+use native.Mathlib.Omega.{arith}
+use lib.Dec.{eqb}
+use lib.ListN.{length, getD, take, drop, replicate, length-drop, length-replicate, take-append-drop}
+use lib.Seq.{sets-eq, drop-at, drop-cons, drop-drop, take-at, take-add, getD-drop}
+use borrow.Author.Tests.{eqb-true}
+use Rattle.basics.proofs.Fields.{fields-back, fields-again}
+use Rattle.basics.proofs.Table.{every}
+use Rattle.book.specs.Format.{countIn, layout, fields, named, entryIn, entryBytes, entriesIn, entriesOf, contentsBytes}
+use Rattle.book.specs.Format.{firstBody, InOrder, most, IsBook, bodyOf, joined, noEntry, places, placed, bookOf}
+use Rattle.book.specs.Reader.{refusal, reading}
+use Rattle.book.specs.Writer.{firstPlaces, counted, stepsOf, size, writeRefusal, writing, output}
+use Rattle.book.specs.declared.Entry.{Entry}
+use Rattle.book.specs.declared.Contents.{Contents}
+use Rattle.book.proofs.Refusals.{writable, not-refused}
+use Rattle.book.proofs.Entries.{length-entries}
+use Rattle.book.proofs.Counted.{length-counted}
+use Rattle.book.proofs.Filling.{length-entry}
+use Rattle.book.proofs.Books.{length-placed, length-contents, length-book}
+use Rattle.book.proofs.Ordered.{order-ends, joined-rest, whole-bodies, placed-order, order-placed, book-exact}
+
+-- an entry that was written is read back, and so are all of them
+entry-back : (e : Entry) (after : List ℕ) → entryIn (entryBytes e ++ after) ≡ e
+unfolding entryIn entryBytes
+entry-back e after = ap named (fields-back layout (fields e) [] after refl)
+
+entries-back : (entries : List Entry) (after : List ℕ)
+    → entriesIn (length entries) (contentsBytes entries ++ after) ≡ entries
+unfolding entriesIn contentsBytes
+entries-back [] after = refl
+entries-back (e ∷ rest) after =
+    let behind = contentsBytes rest ++ after in
+    rw (
+      append-assoc (entryBytes e) (contentsBytes rest) after,
+      entry-back e behind,
+      drop-at (entryBytes e) behind 12 (length-entry e),
+      entries-back rest after,
+    )
+
+-- an entry that was read is written again as it stood, and so are all of them
+module _ (bytes : List ℕ) (small : (i : ℕ) → getD bytes i 0 < 256) where
+  entry-again : 12 ≤ length bytes → entryBytes (entryIn bytes) ≡ take 12 bytes
+  unfolding entryIn entryBytes
+  entry-again h = fields-again bytes small layout 0 (omega arith)
+
+entries-again : (k : ℕ) (bytes : List ℕ) → ((i : ℕ) → getD bytes i 0 < 256) → 12 * k ≤ length bytes
+    → contentsBytes (entriesIn k bytes) ≡ take (12 * k) bytes
+unfolding entriesIn contentsBytes
+entries-again zero bytes small h = refl
+entries-again (suc k) bytes small h =
+    let whole : 12 * suc k ≡ 12 + 12 * k = omega arith in
+    let small′ : (i : ℕ) → getD (drop 12 bytes) i 0 < 256 = λ i. rw (getD-drop 12 bytes i 0) (small (12 + i)) in
+    rw
+    (entry-again bytes small (omega arith), entries-again k (drop 12 bytes) small′ (simp length-drop (omega arith)), whole)
+    (sym (take-add 12 (12 * k) bytes))
+
+-- the entries in the first places are those that count
+first-of : (entries after : List Entry) → firstPlaces (length entries) (entries ++ after) ≡ entries
+unfolding firstPlaces
+first-of [] after = refl
+first-of (e ∷ rest) after = ap (λ (es : List Entry). e ∷ es) (first-of rest after)
+
+places-first : (entries : List Entry) → length entries ≤ 64 → firstPlaces (length entries) (places entries) ≡ entries
+places-first entries h =
+    let room : 0 + length entries ≤ length (replicate 64 noEntry) = omega (arith, length-replicate 64 noEntry) in
+    ap (firstPlaces (length entries)) (sets-eq entries (replicate 64 noEntry) 0 room)
+    ∙ first-of entries (drop (0 + length entries) (replicate 64 noEntry))
+
+-- a book that was read
+abbrev pub readContents : List ℕ → Contents
+readContents book = record { count = countIn book; entries = places (entriesOf book) }
+
+pub read-book : (book : List ℕ) → refusal book ≡ 0 → reading book ≡ record { refusal = 0; contents = readContents book }
+unfolding reading
+read-book book e = rw e
+
+read-refusal : (book : List ℕ) → reading book .refusal ≡ refusal book
+unfolding reading
+read-refusal book = go (eqb (refusal book) 0) refl
+  where
+    go : (t : Bool) → eqb (refusal book) 0 ≡ t → reading book .refusal ≡ refusal book
+    go true h = rw h (sym (eqb-true (refusal book) 0 h))
+    go false h = rw h
+
+module _ (book : List ℕ) (e : refusal book ≡ 0) where
+  is-book : IsBook book
+  is-book = book-exact book .0 e
+
+  count-entries : length (entriesOf book) ≡ countIn book
+  count-entries = length-entries (countIn book) (drop 2 book)
+
+  pub read-counted : counted (readContents book) ≡ entriesOf book
+  read-counted =
+      let b = is-book in
+      ap (λ (k : ℕ). firstPlaces k (places (entriesOf book))) (sym count-entries)
+      ∙ places-first (entriesOf book) (omega (arith, count-entries, b .few))
+
+  pub read-joined : joined book (entriesOf book) ≡ drop (firstBody (countIn book)) book
+  read-joined = joined-rest book (firstBody (countIn book)) (entriesOf book) (is-book .order)
+
+  module _ (small : (i : ℕ) → getD book i 0 < 256) where
+    head-again : 1 ∷ countIn book ∷ drop 2 book ≡ book
+    head-again =
+        let b = is-book in
+        let ends = order-ends (length book) (firstBody (countIn book)) (entriesOf book) (b .order) in
+        ap (λ (first : ℕ). first ∷ countIn book ∷ drop 2 book) (sym (b .one))
+        ∙ sym
+        (drop-cons book 0 0 (omega arith)
+        ∙ ap (λ (l : List ℕ). getD book 0 0 ∷ l) (drop-cons book 1 0 (omega arith)))
+
+    pub book-again : bookOf (entriesOf book) (joined book (entriesOf book)) ≡ book
+    unfolding bookOf
+    book-again =
+        let b = is-book in
+        let k = countIn book in
+        let ends = order-ends (length book) (firstBody k) (entriesOf book) (b .order) in
+        let small′ : (i : ℕ) → getD (drop 2 book) i 0 < 256 = λ i. rw (getD-drop 2 book i 0) (small (2 + i)) in
+        rw (
+          count-entries,
+          placed-order (length book) (firstBody k) (entriesOf book) (b .order),
+          read-joined,
+          entries-again k (drop 2 book) small′ (simp length-drop (omega arith)),
+          ← drop-drop (12 * k) 2 book,
+          take-append-drop (12 * k) (drop 2 book),
+        )
+        head-again
+
+    module _ (out : List ℕ) (room : length book ≤ length out) where
+      bodies-size : length (joined book (entriesOf book)) ≡ 4 * stepsOf (entriesOf book)
+      bodies-size =
+          let b = is-book in
+          let ends = order-ends (length book) (firstBody (countIn book)) (entriesOf book) (b .order) in
+          ap length read-joined ∙ length-drop (firstBody (countIn book)) book ∙ omega arith
+
+      whole-size : size (readContents book) (length (joined book (entriesOf book))) ≡ length book
+      whole-size =
+          let b = is-book in
+          let ends = order-ends (length book) (firstBody (countIn book)) (entriesOf book) (b .order) in
+          omega (arith, bodies-size)
+
+      again-none : writeRefusal (readContents book) (length (joined book (entriesOf book))) (length out) ≡ 0
+      again-none =
+          let b = is-book in
+          sym
+          (not-refused (readContents book) (length (joined book (entriesOf book))) (length out) (b .few)
+          (bodies-size ∙ ap (λ (es : List Entry). 4 * stepsOf es) (sym read-counted)) (omega (arith, whole-size, b .small))
+          (omega (arith, whole-size)))
+
+      pub again-writing :
+          writing (readContents book) (length (joined book (entriesOf book))) (length out)
+          ≡ record { refusal = 0; bytes = length book }
+      unfolding writing
+      again-writing = rw (again-none, whole-size)
+
+      pub again-output :
+          output (readContents book) (joined book (entriesOf book)) out ≡ book ++ drop (length book) out
+      unfolding output
+      again-output = rw (again-none, whole-size, read-counted, book-again)
+
+pub read-again : (book out : List ℕ) → ((i : ℕ) → getD book i 0 < 256) → reading book .refusal ≡ 0
+    → length book ≤ length out →
+    let contents = reading book .contents in
+    let bodies = joined book (counted contents) in
+    (writing contents (length bodies) (length out) ≡ record { refusal = 0; bytes = length book })
+    × (output contents bodies out ≡ book ++ drop (length book) out)
+read-again book out small none room =
+    let e = sym (read-refusal book) ∙ none in
+    rw (read-book book e, read-counted book e)
+    (again-writing book e small out room, again-output book e small out room)
+
+-- the book of some entries and bodies has these entries, placed, and these bodies
+module _ (entries : List Entry) (bodies : List ℕ) where
+  made-entries : entriesOf (bookOf entries bodies) ≡ placed (firstBody (length entries)) entries
+  unfolding bookOf
+  made-entries =
+      let ps = placed (firstBody (length entries)) entries in
+      ap (λ (k : ℕ). entriesIn k (contentsBytes ps ++ bodies)) (sym (length-placed (firstBody (length entries)) entries))
+      ∙ entries-back ps bodies
+
+  made-bodies : drop (firstBody (length entries)) (bookOf entries bodies) ≡ bodies
+  unfolding bookOf
+  made-bodies =
+      let ps = placed (firstBody (length entries)) entries in
+      let long : length (1 ∷ length entries ∷ contentsBytes ps) ≡ firstBody (length entries) =
+      omega (arith, length-contents ps, length-placed (firstBody (length entries)) entries) in
+      drop-at (1 ∷ length entries ∷ contentsBytes ps) bodies (firstBody (length entries)) long
+
+  module _ (few : length entries ≤ 64) (whole : length bodies ≡ 4 * stepsOf entries)
+      (fits : firstBody (length entries) + length bodies ≤ most) where
+    made-order : InOrder (length (bookOf entries bodies)) (firstBody (length entries)) (entriesOf (bookOf entries bodies))
+    made-order =
+        rw made-entries
+        (order-placed (length (bookOf entries bodies)) (firstBody (length entries)) entries
+        (omega (arith, length-book entries bodies)))
+
+    made-book : IsBook (bookOf entries bodies)
+    unfolding bookOf
+    made-book =
+        record { small = omega (arith, length-book entries bodies); one = refl; few = few; order = made-order }
+
+    made-joined : joined (bookOf entries bodies) (entriesOf (bookOf entries bodies)) ≡ bodies
+    made-joined =
+        joined-rest (bookOf entries bodies) (firstBody (length entries)) (entriesOf (bookOf entries bodies)) made-order
+        ∙ made-bodies
+
+-- a book that was written is read as it was handed in
+module _ (contents : Contents) (bodies out : List ℕ) (e : writeRefusal contents (length bodies) (length out) ≡ 0) where
+  count-counted : length (counted contents) ≡ contents .count
+  count-counted = length-counted (contents .count) (contents .entries)
+
+  written-size : length (bookOf (counted contents) bodies) ≡ size contents (length bodies)
+  written-size =
+      length-book (counted contents) bodies ∙ ap (λ (k : ℕ). firstBody k + length bodies) count-counted
+
+  pub written-book : take (size contents (length bodies)) (output contents bodies out) ≡ bookOf (counted contents) bodies
+  unfolding output
+  written-book =
+      rw e
+      (take-at (bookOf (counted contents) bodies) (drop (size contents (length bodies)) out)
+      (size contents (length bodies)) written-size)
+
+  pub written-is : IsBook (bookOf (counted contents) bodies)
+  written-is =
+      let w = writable contents (length bodies) (length out) e in
+      made-book (counted contents) bodies (omega (arith, count-counted)) (w .whole) (omega (arith, count-counted))
+
+  pub written-entries : entriesOf (bookOf (counted contents) bodies) ≡ placed (firstBody (contents .count)) (counted contents)
+  written-entries =
+      made-entries (counted contents) bodies ∙ ap (λ (k : ℕ). placed (firstBody k) (counted contents)) count-counted
+
+  pub written-reading :
+      reading (bookOf (counted contents) bodies)
+      ≡ record {
+        refusal = 0;
+        contents =
+            record { count = contents .count; entries = places (placed (firstBody (contents .count)) (counted contents)) };
+      }
+  unfolding bookOf
+  written-reading =
+      let book = bookOf (counted contents) bodies in
+      let count : countIn book ≡ contents .count = count-counted in
+      read-book book (book-exact book .1 written-is) ∙ rw (written-entries, count)
+
+  pub written-joined :
+      joined (bookOf (counted contents) bodies) (placed (firstBody (contents .count)) (counted contents)) ≡ bodies
+  written-joined =
+      let w = writable contents (length bodies) (length out) e in
+      rw (← written-entries)
+      (made-joined (counted contents) bodies (omega (arith, count-counted)) (w .whole) (omega (arith, count-counted)))
+
+  written-whole :
+      every (λ entry. eqb (length (bodyOf (bookOf (counted contents) bodies) entry)) (4 * entry .steps))
+      (placed (firstBody (contents .count)) (counted contents))
+      ≡ true
+  written-whole =
+      let book = bookOf (counted contents) bodies in
+      rw (← written-entries) (whole-bodies book (firstBody (countIn book)) (entriesOf book) (written-is .order))
+
+  pub written-again :
+      let book = take (size contents (length bodies)) (output contents bodies out) in
+      let entries = placed (firstBody (contents .count)) (counted contents) in
+      (reading book
+      ≡ record { refusal = 0; contents = record { count = contents .count; entries = places entries } })
+      × (joined book entries ≡ bodies)
+      × (every (λ entry. eqb (length (bodyOf book entry)) (4 * entry .steps)) entries ≡ true)
+  written-again = rw written-book (written-reading, written-joined, written-whole)

@@ -1,0 +1,100 @@
+-- The capture book (01, 'Capture book'), for the reader and for the writer.
+use mathlib.Core.Path.{_≡_}
+use mathlib.Core.List.{List, [], _∷_, _++_}
+use Prim.Native.Nat.{ℕ, zero, suc, _+_, _*_, _≤_}
+use lib.ListN.{length, getD, take, drop, replicate}
+use lib.Seq.{sets}
+use Rattle.basics.specs.Fields.{Width, one, two, four, fieldsAt, fieldBytes}
+use Rattle.book.specs.declared.Entry.{Entry}
+
+-- byte 0 of a book is 1, and byte 1 the count
+abbrev pub countIn : List ℕ → ℕ
+countIn book = getD book 1 0
+
+-- the fields of an entry, and the bytes of each: n (1), spare (1), mask (2), W (2), offset of the body (4), steps (2)
+abbrev pub layout : List Width
+layout = one ∷ one ∷ two ∷ two ∷ four ∷ two ∷ []
+
+abbrev pub fields : Entry → List ℕ
+fields e = e .n ∷ e .spare ∷ e .mask ∷ e .w ∷ e .offset ∷ e .steps ∷ []
+
+abbrev pub named : List ℕ → Entry
+named values =
+    record {
+      n = getD values 0 0;
+      spare = getD values 1 0;
+      mask = getD values 2 0;
+      w = getD values 3 0;
+      offset = getD values 4 0;
+      steps = getD values 5 0;
+    }
+
+-- the entry that bytes start with, and the bytes of an entry
+unfoldable pub entryIn : List ℕ → Entry
+entryIn bytes = named (fieldsAt layout bytes 0)
+
+unfoldable pub entryBytes : Entry → List ℕ
+entryBytes e = fieldBytes layout (fields e)
+
+-- k entries of 12 bytes, one behind the other
+unfoldable pub entriesIn : ℕ → List ℕ → List Entry
+entriesIn zero bytes = []
+entriesIn (suc k) bytes = entryIn bytes ∷ entriesIn k (drop 12 bytes)
+
+abbrev pub entriesOf : List ℕ → List Entry
+entriesOf book = entriesIn (countIn book) (drop 2 book)
+
+unfoldable pub contentsBytes : List Entry → List ℕ
+contentsBytes [] = []
+contentsBytes (e ∷ rest) = entryBytes e ++ contentsBytes rest
+
+-- the first body, behind the contents
+abbrev pub firstBody : ℕ → ℕ
+firstBody k = 2 + 12 * k
+
+-- where the body of e ends, four bytes a step: there the next one belongs
+abbrev pub bodyEnd : ℕ → Entry → ℕ
+bodyEnd at e = at + 4 * e .steps
+
+-- the bodies lie in order without gaps, the first one at a place, the last one ending with a book of that size
+unfoldable pub InOrder : ℕ → ℕ → List Entry → Type 0
+InOrder size at [] = at ≡ size
+InOrder size at (e ∷ rest) = (e .spare ≡ 0) × (e .offset ≡ at) × InOrder size (bodyEnd at e) rest
+
+-- the most bytes that a book has
+abbrev pub most : ℕ
+most = 65536
+
+pub record IsBook (book : List ℕ) : Type 0 where
+  pub small : length book ≤ most
+  pub one : getD book 0 0 ≡ 1
+  pub few : countIn book ≤ 64
+  pub order : InOrder (length book) (firstBody (countIn book)) (entriesOf book)
+
+-- the body of an entry, as far as the book reaches; and the bodies joined
+abbrev pub bodyOf : List ℕ → Entry → List ℕ
+bodyOf book e = take (4 * e .steps) (drop (e .offset) book)
+
+unfoldable pub joined : List ℕ → List Entry → List ℕ
+joined book [] = []
+joined book (e ∷ rest) = bodyOf book e ++ joined book rest
+
+-- 64 places, the entries in the first of them, zeros past the count
+abbrev pub noEntry : Entry
+noEntry = record { n = 0; spare = 0; mask = 0; w = 0; offset = 0; steps = 0 }
+
+abbrev pub places : List Entry → List Entry
+places entries = sets (replicate 64 noEntry) 0 entries
+
+-- the entries with spare 0 and with the offsets at which their bodies belong
+abbrev pub placedAt : ℕ → Entry → Entry
+placedAt at e = record { n = e .n; spare = 0; mask = e .mask; w = e .w; offset = at; steps = e .steps }
+
+unfoldable pub placed : ℕ → List Entry → List Entry
+placed at [] = []
+placed at (e ∷ rest) = placedAt at e ∷ placed (bodyEnd at e) rest
+
+-- the book of some entries and their joined bodies
+unfoldable pub bookOf : List Entry → List ℕ → List ℕ
+bookOf entries bodies =
+    1 ∷ length entries ∷ contentsBytes (placed (firstBody (length entries)) entries) ++ bodies

@@ -1,0 +1,45 @@
+-- Reading a book: refusals 20 to 24, then entry by entry 25, 26 and 27, then 28 (01, 'Numbered refusals').
+use mathlib.Core.Bool.{not}
+use mathlib.Core.List.{List, [], _∷_, _++_}
+use Prim.Native.Nat.{ℕ}
+use lib.Dec.{ltb, eqb}
+use lib.ListN.{length, getD}
+use Rattle.basics.specs.Choice.{if_then_else_}
+use Rattle.basics.specs.First.{Check, _when_, firstOf}
+use Rattle.book.specs.Format.{countIn, entriesOf, firstBody, bodyEnd, most, places}
+use Rattle.book.specs.declared.Entry.{Entry}
+use Rattle.book.specs.declared.Reading.{Reading}
+
+abbrev pub headFaults : List ℕ → List Check
+headFaults book =
+    (20 when ltb most (length book))
+    ∷ (21 when ltb (length book) 2)
+    ∷ (22 when not (eqb (getD book 0 0) 1))
+    ∷ (23 when ltb 64 (countIn book))
+    ∷ (24 when ltb (length book) (firstBody (countIn book)))
+    ∷ []
+
+-- of an entry whose body belongs at a place of a book of that size
+abbrev pub entryFaults : ℕ → ℕ → Entry → List Check
+entryFaults size at e =
+    (25 when not (eqb (e .spare) 0)) ∷ (26 when not (eqb (e .offset) at)) ∷ (27 when ltb size (bodyEnd at e)) ∷ []
+
+unfoldable pub bodyFaults : ℕ → ℕ → List Entry → List Check
+bodyFaults size at [] = (28 when ltb at size) ∷ []
+bodyFaults size at (e ∷ rest) = entryFaults size at e ++ bodyFaults size (bodyEnd at e) rest
+
+-- in the paper's order
+abbrev pub faults : List ℕ → List Check
+faults book = headFaults book ++ bodyFaults (length book) (firstBody (countIn book)) (entriesOf book)
+
+unfoldable pub refusal : List ℕ → ℕ
+refusal book = firstOf (faults book)
+
+abbrev pub refused : ℕ → Reading
+refused number = record { refusal = number; contents = record { count = 0; entries = places [] } }
+
+unfoldable pub reading : List ℕ → Reading
+reading book =
+    if eqb (refusal book) 0
+    then record { refusal = 0; contents = record { count = countIn book; entries = places (entriesOf book) } }
+    else refused (refusal book)

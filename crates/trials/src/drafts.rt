@@ -1,0 +1,141 @@
+// What the writer is handed, and the example book of 01.
+use book::Contents;
+use book::Entry;
+
+pub(crate) const PAPER: [u8; 46] = [
+    1,
+    2,
+    2,
+    0,
+    0,
+    0,
+    0,
+    3,
+    0,
+    0,
+    0,
+    26,
+    0,
+    3,
+    2,
+    0,
+    0,
+    0,
+    0,
+    3,
+    0,
+    0,
+    0,
+    38,
+    0,
+    2,
+    0x00,
+    0x08,
+    0xA2,
+    0x08,
+    0x22,
+    0x28,
+    0xA2,
+    0x28,
+    0x22,
+    0x28,
+    0x62,
+    0x28,
+    0x00,
+    0x08,
+    0xA2,
+    0x08,
+    0x22,
+    0x28,
+    0xA2,
+    0x08,
+];
+
+// Byte j is 7 j + 3.
+pub(crate) fn fill_by_rule(bytes: &mut [u8]) {
+    let mut i = 0;
+    while i < bytes.len() {
+        bytes[i] = ((i % 256 * 7 + 3) % 256) as u8;
+        i += 1;
+    }
+}
+
+pub(crate) fn fill(bytes: &mut [u8], b: u8) {
+    let mut i = 0;
+    while i < bytes.len() {
+        bytes[i] = b;
+        i += 1;
+    }
+}
+
+// The first n bytes, or all where there are fewer.
+pub(crate) fn front(bytes: &[u8], n: usize) -> &[u8] {
+    if bytes.len() < n { bytes } else { &bytes[..n] }
+}
+
+// The writer looks at neither spare nor offset.
+pub(crate) fn place(n: u8, mask: u16, w: u16, steps: u16) -> Entry {
+    Entry {
+        n,
+        spare: 9,
+        mask,
+        w,
+        offset: 12345678,
+        steps,
+    }
+}
+
+fn still_place(i: u16) -> Entry {
+    if i == 0 {
+        return place(1, 0, 0, 0);
+    }
+    if i == 1 {
+        return place(14, 16383, 1, 1);
+    }
+    place(255, 65535, 65535, 0)
+}
+
+fn many_place(i: u16) -> Entry {
+    place((i % 64) as u8, 1000 * (i % 64) + 7, 65535 - i % 64, i % 5)
+}
+
+fn quiet_place(i: u16) -> Entry {
+    place((64 - i % 64) as u8, i, 300, 0)
+}
+
+// The contents by number: empty, paper, still, many, quiet, largest.
+fn place_of(kind: usize, i: u16) -> Entry {
+    match kind {
+        1 => place(2, 0, 3, 3 - i % 2),
+        2 => still_place(i),
+        3 => many_place(i),
+        4 => quiet_place(i),
+        _ => place(14, 10922, 300, 16380),
+    }
+}
+
+const COUNTS: [u8; 6] = [0, 2, 3, 64, 64, 1];
+
+fn wide(b: u8) -> u16 {
+    b as u16
+}
+
+pub(crate) fn draft(kind: usize) -> Contents {
+    let count = COUNTS[kind % 6];
+    let mut entries = [place(9, 9, 9, 9); 64];
+    let mut i: u16 = 0;
+    while i < 64 {
+        if i < wide(count) {
+            entries[i as usize] = place_of(kind, i);
+        }
+        i += 1;
+    }
+    Contents { count, entries }
+}
+
+// As many bytes of joined bodies as the steps of each call for.
+const SIZES: [usize; 6] = [0, 20, 4, 504, 0, 65520];
+
+pub(crate) fn bodies_of(kind: usize) -> usize {
+    SIZES[kind % 6]
+}

@@ -1,0 +1,189 @@
+//! The tables of `peer trials`: the capture book over chosen inputs, in a fixed
+//! text that can be compared byte for byte with the text of another reading.
+
+mod bodies;
+mod digest;
+mod reader;
+mod rounds;
+mod writer;
+
+use crate::book::{self, Contents, Entry, Refusal, MOST_ENTRIES};
+use std::fmt::{self, Display, Formatter};
+use std::io::{self, Write};
+
+type Block<W> = fn(&mut W) -> io::Result<()>;
+
+pub fn write<W: Write>(out: &mut W) -> io::Result<()> {
+    let blocks: [Block<W>; 7] = [
+        rounds::write,
+        reader::write_alone,
+        reader::write_pairs,
+        reader::write_by_byte,
+        reader::write_by_length,
+        writer::write,
+        bodies::write,
+    ];
+    blocks.into_iter().try_for_each(|block| block(out))
+}
+
+/// The book at the end of the paper's "Sequences on both sides".
+const PAPER_BOOK: [u8; 46] = [
+    0x01, 0x02, // 1 and the count
+    0x02, 0x00, 0x00, 0x00, 0x00, 0x03, 0x00, 0x00, 0x00, 0x1A, 0x00, 0x03, // entry 0
+    0x02, 0x00, 0x00, 0x00, 0x00, 0x03, 0x00, 0x00, 0x00, 0x26, 0x00, 0x02, // entry 1
+    0x00, 0x08, 0xA2, 0x08, 0x22, 0x28, 0xA2, 0x28, 0x22, 0x28, 0x62, 0x28, // body 0
+    0x00, 0x08, 0xA2, 0x08, 0x22, 0x28, 0xA2, 0x08, // body 1
+];
+
+/// More than a book may have, so that every length up to the bound and just past
+/// it fits in, and a byte written behind the longest book would be seen.
+const BUFFER_BYTES: usize = 65_600;
+
+/// What stands in an output buffer before the writer comes.
+const UNWRITTEN: u8 = 238;
+
+/// What the reader answers for a book.
+struct Reading {
+    refusal: u8,
+    contents: Contents,
+}
+
+impl Reading {
+    fn of(book: &[u8]) -> Self {
+        let answer = book::read(book);
+        Self {
+            refusal: refusal_number(&answer),
+            contents: answer.unwrap_or(Contents::ZEROS),
+        }
+    }
+}
+
+/// The refusal, the count, and the digest of the contents.
+impl Display for Reading {
+    fn fmt(&self, f: &mut Formatter) -> fmt::Result {
+        let digest = digest::of_contents(&self.contents);
+        write!(f, "{} {} {digest}", self.refusal, self.contents.count)
+    }
+}
+
+/// What the writer answers, and the output buffer after it.
+struct Writing {
+    refusal: u8,
+    length: usize,
+    buffer: Vec<u8>,
+}
+
+impl Writing {
+    /// Lends the writer no more than the first `room` bytes of the buffer.
+    fn of(contents: &Contents, bodies: &[u8], room: usize) -> Self {
+        let mut buffer = vec![UNWRITTEN; BUFFER_BYTES];
+        let answer = book::write(contents, bodies, &mut buffer[..room]);
+        Self {
+            refusal: refusal_number(&answer),
+            length: answer.unwrap_or(0),
+            buffer,
+        }
+    }
+
+    fn book(&self) -> &[u8] {
+        &self.buffer[..self.length]
+    }
+}
+
+/// The refusal, the bytes written, and the digest of the whole buffer: a byte
+/// changed where none should be shows in it.
+impl Display for Writing {
+    fn fmt(&self, f: &mut Formatter) -> fmt::Result {
+        let digest = digest::of_bytes(&self.buffer);
+        write!(f, "{} {} {digest}", self.refusal, self.length)
+    }
+}
+
+fn refusal_number<T>(answer: &Result<T, Refusal>) -> u8 {
+    answer.as_ref().err().map_or(0, |refusal| refusal.number())
+}
+
+/// Contents to be written, of entries with the given n, mask, W and steps. All
+/// that the writer must not look at holds numbers it would be caught with.
+fn contents_to_write(entries: impl IntoIterator<Item = (u8, u16, u16, u16)>) -> Contents {
+    const UNSEEN: Entry = Entry {
+        n: 9,
+        spare: 9,
+        mask: 9,
+        w: 9,
+        offset: 12_345_678,
+        steps: 9,
+    };
+    let mut contents = Contents {
+        count: 0,
+        places: [UNSEEN; MOST_ENTRIES],
+    };
+    for (place, (n, mask, w, steps)) in contents.places.iter_mut().zip(entries) {
+        *place = Entry {
+            n,
+            mask,
+            w,
+            steps,
+            ..UNSEEN
+        };
+        contents.count += 1;
+    }
+    contents
+}
+
+/// What the writer needs to be given for the paper's book, besides the bodies.
+fn paper_contents() -> Contents {
+    contents_to_write([(2, 0, 3, 3), (2, 0, 3, 2)])
+}
+
+/// Bodies of any length, whose bytes differ from their neighbours.
+fn rule_bytes(length: usize) -> Vec<u8> {
+    (0..=u8::MAX)
+        .map(|number| number.wrapping_mul(7).wrapping_add(3))
+        .cycle()
+        .take(length)
+        .collect()
+}
+
+#[cfg(test)]
+mod tests {
+    use super::*;
+
+    pub(super) fn printed(block: Block<Vec<u8>>) -> String {
+        let mut out = Vec::new();
+        block(&mut out).expect("memory takes every write");
+        String::from_utf8(out).expect("the tables are text")
+    }
+
+    /// What a comparison byte for byte would trip over first.
+    #[test]
+    fn the_text_has_its_fixed_shape() {
+        let text = printed(write);
+        assert!(text.is_ascii() && text.ends_with('\n'));
+        let is_plain = |line: &str| line.split(' ').all(|word| !word.is_empty());
+        assert!(text.lines().all(is_plain));
+        // Six rounds with the lines of their 0, 2, 3, 64, 64 and 1 entries.
+        let rounds = 6 * 4 + 134;
+        let reader = (1 + 26) + (1 + 26) + (1 + 26) + 2;
+        assert_eq!(
+            text.lines().count(),
+            rounds + reader + (1 + 14 * 14) + (1 + 12)
+        );
+    }
+
+    #[test]
+    fn rule_bytes_follow_their_rule() {
+        let bytes = rule_bytes(1_000);
+        assert_eq!(bytes[..4], [3, 10, 17, 24]);
+        for (place, byte) in (0..1_000).zip(bytes) {
+            assert_eq!(u32::from(byte), (7 * place + 3) % 256);
+        }
+    }
+
+    #[test]
+    fn the_writer_gets_what_makes_the_paper_book() {
+        let writing = Writing::of(&paper_contents(), &PAPER_BOOK[26..], BUFFER_BYTES);
+        assert_eq!(writing.book(), PAPER_BOOK);
+        assert!(writing.to_string().starts_with("0 46 "));
+    }
+}

@@ -1,0 +1,254 @@
+//! Which refusal a book gets from the reader (paper: "Numbered refusals", 20 to
+//! 28, and the orders below the table).
+
+use super::{Reading, BUFFER_BYTES, PAPER_BOOK};
+use std::io::{self, Write};
+
+/// Something to set in the paper's book.
+#[derive(Clone, Copy)]
+enum Fault {
+    Nothing,
+    Length(usize),
+    Byte(usize, u8),
+}
+
+/// Those of one refusal stand together, in the order of their numbers; behind
+/// them a few more.
+const FAULTS: [Fault; 26] = [
+    Fault::Nothing,
+    Fault::Length(65_537),
+    Fault::Length(1),
+    Fault::Length(0),
+    Fault::Byte(0, 2),
+    Fault::Byte(0, 0),
+    Fault::Byte(1, 65),
+    Fault::Byte(1, 255),
+    Fault::Length(25),
+    Fault::Byte(1, 4),
+    Fault::Byte(3, 1),
+    Fault::Byte(15, 255),
+    Fault::Byte(11, 27),
+    Fault::Byte(11, 25),
+    Fault::Byte(8, 1),
+    Fault::Byte(23, 39),
+    Fault::Byte(13, 6),
+    Fault::Byte(25, 3),
+    Fault::Byte(24, 255),
+    Fault::Length(45),
+    Fault::Length(47),
+    Fault::Byte(25, 1),
+    Fault::Length(65_536),
+    Fault::Byte(13, 4),
+    Fault::Byte(1, 1),
+    Fault::Length(26),
+];
+
+/// The paper's book with zeros behind it, to put faults into.
+struct Tried {
+    buffer: Vec<u8>,
+    length: usize,
+}
+
+impl Tried {
+    fn with_faults(faults: &[Fault]) -> Self {
+        let mut tried = Self {
+            buffer: PAPER_BOOK.to_vec(),
+            length: PAPER_BOOK.len(),
+        };
+        tried.buffer.resize(BUFFER_BYTES, 0);
+        for &fault in faults {
+            tried.put(fault);
+        }
+        tried
+    }
+
+    fn put(&mut self, fault: Fault) {
+        match fault {
+            Fault::Nothing => {}
+            Fault::Length(length) => self.length = length,
+            Fault::Byte(place, value) => self.buffer[place] = value,
+        }
+    }
+
+    fn read(&self) -> Reading {
+        Reading::of(&self.buffer[..self.length])
+    }
+}
+
+pub(super) fn write_alone(out: &mut impl Write) -> io::Result<()> {
+    writeln!(out, "reader alone")?;
+    for (number, fault) in FAULTS.into_iter().enumerate() {
+        writeln!(out, "{number} {}", Tried::with_faults(&[fault]).read())?;
+    }
+    Ok(())
+}
+
+pub(super) fn write_pairs(out: &mut impl Write) -> io::Result<()> {
+    writeln!(out, "reader pairs")?;
+    for (number, first) in FAULTS.into_iter().enumerate() {
+        write!(out, "{number}")?;
+        for second in FAULTS {
+            let reading = Tried::with_faults(&[first, second]).read();
+            write!(out, " {}", reading.refusal)?;
+        }
+        writeln!(out)?;
+    }
+    Ok(())
+}
+
+/// How many books get each answer the reader has.
+#[derive(Default)]
+struct Counts {
+    taken: u32,
+    /// From refusal 20 on.
+    refused: [u32; 9],
+}
+
+impl Counts {
+    fn over_all_values(place: usize) -> Self {
+        let mut counts = Self::default();
+        let mut book = PAPER_BOOK;
+        for value in 0..=u8::MAX {
+            book[place] = value;
+            counts.add(Reading::of(&book).refusal);
+        }
+        counts
+    }
+
+    fn add(&mut self, refusal: u8) {
+        match refusal.checked_sub(20) {
+            None => self.taken += 1,
+            Some(past) => self.refused[usize::from(past)] += 1,
+        }
+    }
+}
+
+/// Every byte of the contents through all its values. Those of the bodies may be
+/// anything.
+pub(super) fn write_by_byte(out: &mut impl Write) -> io::Result<()> {
+    writeln!(out, "reader bytes")?;
+    for place in 0..26 {
+        let counts = Counts::over_all_values(place);
+        write!(out, "{place} {}", counts.taken)?;
+        for refused in counts.refused {
+            write!(out, " {refused}")?;
+        }
+        writeln!(out)?;
+    }
+    Ok(())
+}
+
+/// The paper's book cut to each length, up to its own.
+pub(super) fn write_by_length(out: &mut impl Write) -> io::Result<()> {
+    writeln!(out, "reader lengths")?;
+    let refusals: Vec<String> = (0..=PAPER_BOOK.len())
+        .map(|length| Reading::of(&PAPER_BOOK[..length]).refusal.to_string())
+        .collect();
+    writeln!(out, "{}", refusals.join(" "))
+}
+
+#[cfg(test)]
+mod tests {
+    use super::super::tests::printed;
+    use super::*;
+
+    /// By hand from the wording of the refusals.
+    const REFUSALS: [u8; 26] = [
+        0, 20, 21, 21, 22, 22, 23, 23, 24, 24, 25, 25, 26, 26, 26, 26, 27, 27, 27, 27, 28, 28, 28,
+        26, 26, 27,
+    ];
+
+    #[test]
+    fn each_fault_alone_has_its_refusal() {
+        let text = printed(write_alone);
+        assert_eq!(text.lines().next(), Some("reader alone"));
+        assert_eq!(text.lines().count(), 1 + REFUSALS.len());
+        let rows = text.lines().skip(1).zip(REFUSALS);
+        for (number, (line, refusal)) in rows.enumerate() {
+            let count = if refusal == 0 { 2 } else { 0 };
+            let front = format!("{number} {refusal} {count} ");
+            assert!(line.starts_with(&front), "{line}");
+        }
+    }
+
+    fn refusal_of(first: usize, second: usize) -> u8 {
+        let faults = [FAULTS[first], FAULTS[second]];
+        Tried::with_faults(&faults).read().refusal
+    }
+
+    #[test]
+    fn a_pair_with_nothing_or_itself_is_the_fault_alone() {
+        for (number, refusal) in REFUSALS.into_iter().enumerate() {
+            for (first, second) in [(0, number), (number, 0), (number, number)] {
+                assert_eq!(refusal_of(first, second), refusal);
+            }
+        }
+    }
+
+    /// Entry by entry: what is wrong with the first comes before what is wrong
+    /// with the second, whatever the numbers.
+    #[test]
+    fn of_two_faults_the_first_in_order_is_refused() {
+        let pairs = [
+            (1, 4, 20),
+            (2, 4, 21),
+            (5, 6, 22),
+            (7, 8, 23),
+            (8, 10, 24),
+            (10, 12, 25),
+            (10, 11, 25),
+            (12, 16, 26),
+            (11, 12, 26),
+            (11, 16, 27),
+            (15, 16, 27),
+            (15, 17, 26),
+            (17, 20, 27),
+            (17, 22, 28),
+            (19, 21, 28),
+            (11, 20, 25),
+            (10, 25, 25),
+            (11, 25, 27),
+            (9, 22, 26),
+        ];
+        for (first, second, refusal) in pairs {
+            // No two of these set the same, so which is put in first is no matter.
+            assert_eq!(refusal_of(first, second), refusal, "{first} {second}");
+            assert_eq!(refusal_of(second, first), refusal, "{second} {first}");
+        }
+    }
+
+    #[test]
+    fn where_both_set_the_same_the_second_stands() {
+        assert_eq!(refusal_of(4, 5), 22);
+        assert_eq!(refusal_of(1, 20), 28);
+        assert_eq!(refusal_of(20, 1), 20);
+        assert_eq!(refusal_of(6, 24), 26);
+        assert_eq!(refusal_of(24, 6), 23);
+    }
+
+    #[test]
+    fn values_are_counted_as_by_hand() {
+        let text = printed(write_by_byte);
+        let lines: Vec<&str> = text.lines().collect();
+        for (place, expected) in [
+            (0, "0 1 0 0 255 0 0 0 0 0 0"),
+            // Counts 65 to 255, then 4 to 64, then 1 and 3, then 0.
+            (1, "1 1 0 0 0 191 61 0 2 0 1"),
+            (2, "2 256 0 0 0 0 0 0 0 0 0"),
+            (3, "3 1 0 0 0 0 0 255 0 0 0"),
+            (8, "8 1 0 0 0 0 0 0 255 0 0"),
+            (13, "13 1 0 0 0 0 0 0 5 250 0"),
+            (24, "24 1 0 0 0 0 0 0 0 255 0"),
+            (25, "25 1 0 0 0 0 0 0 0 253 2"),
+        ] {
+            assert_eq!(lines[1 + place], expected);
+        }
+    }
+
+    #[test]
+    fn a_cut_book_is_refused_by_what_is_cut() {
+        let text = printed(write_by_length);
+        let expected = [&["21"; 2][..], &["24"; 24], &["27"; 20], &["0"]].concat();
+        assert_eq!(text, format!("reader lengths\n{}\n", expected.join(" ")));
+    }
+}
