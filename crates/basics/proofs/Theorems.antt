@@ -1,18 +1,20 @@
 -- The front door: what is proved of the shared definitions, each theorem in full with the line that cites its proof.
 use mathlib.Core.Path.{_≡_}
 use mathlib.Core.Bool.{Bool, true, false}
-use mathlib.Core.List.{List}
+use mathlib.Core.List.{List, _++_}
 use mathlib.Core.Logic.{_↔_}
-use Prim.Native.Nat.{ℕ, _+_, _<_}
-use lib.ListN.{length, getD}
+use Prim.Native.Nat.{ℕ, _+_, _≤_, _<_}
+use lib.ListN.{length, getD, take, drop}
 use lib.Seq.{sets}
 use denote.Ref.{now}
 use Rattle.basics.specs.First.{Check, firstOf, appliesAt, numberOf, FirstAt}
 use Rattle.basics.specs.Answer.{Answers}
 use Rattle.basics.specs.Bytes.{twoAt, fourAt, twoBytes, fourBytes}
+use Rattle.basics.specs.Fields.{Width, sizeOf, fieldsAt, fieldBytes}
 use Rattle.basics.proofs.Table.{every, at-entry, values, entry-is}
 use Rattle.basics.proofs.First.{CountedFrom, first-exact, numbered, none-exact, first-applies}
 use Rattle.basics.proofs.Bytes.{two-back, four-back}
+use Rattle.basics.proofs.Fields.{fields-back, fields-again}
 use Rattle.basics.proofs.One.{OneAnswer, OneContent, one-value, one-case}
 use Rattle.basics.proofs.two_at.Kinds as two-at-kinds
 use Rattle.basics.proofs.two_at.Reads as two-at
@@ -29,6 +31,17 @@ two-right = two-back
 
 four-right : (bytes : List ℕ) (at v : ℕ) → at + 3 < length bytes → fourAt (sets bytes at (fourBytes v)) at ≡ v
 four-right = four-back
+
+-- Numbers that were written by a layout, behind whatever and before whatever, are read back by it; and bytes that were read
+-- by it, all of them below 256, are written again as they stood.
+fields-right : (layout : List Width) (values before after : List ℕ) → length values ≡ length layout
+    → fieldsAt layout (before ++ (fieldBytes layout values ++ after)) (length before) ≡ values
+fields-right = fields-back
+
+fields-complete : (bytes : List ℕ) → ((i : ℕ) → getD bytes i 0 < 256)
+    → (layout : List Width) (at : ℕ) → at + sizeOf layout ≤ length bytes
+    → fieldBytes layout (fieldsAt layout bytes at) ≡ take (sizeOf layout) (drop at bytes)
+fields-complete = fields-again
 
 -- Of checks numbered 1, 2, 3, .., the number i + 1 is answered exactly where the check at place i is the first to
 -- apply; and 0 exactly where none applies, if no check bears that number.

@@ -1,4 +1,4 @@
--- Laws for the crates above; Theorems is the front door.
+-- Theorems is the front door; the rest are the laws behind it.
 mod Refusals
 mod Entries
 mod Counted

@@ -113,26 +113,25 @@ book-exact book = (forward, backward)
         )
         (order-none (length book) (firstBody (countIn book)) (entriesOf book) (b .order))
 
--- the first check that applies gives the refusal
-abbrev pub Refused : List ℕ → Type 0
-Refused book = (i : ℕ) × FirstAt (faults book) i × (refusal book ≡ numberOf (faults book) i)
-
 bodies-numbered : (size at : ℕ) (entries : List Entry) → numbered (bodyFaults size at entries) ≡ true
 unfolding bodyFaults
 bodies-numbered size at [] = refl
 bodies-numbered size at (e ∷ rest) = bodies-numbered size (bodyEnd at e) rest
 
-pub refused-or-book : (book : List ℕ) → Refused book ⊎ IsBook book
+-- the first check that applies gives the refusal, or the bytes are a book
+pub refused-or-book : (book : List ℕ)
+    → ((i : ℕ) × FirstAt (faults book) i × (refusal book ≡ numberOf (faults book) i)) ⊎ IsBook book
 unfolding refusal
 refused-or-book book = go (refusal book) refl
   where
-    go : (n : ℕ) → refusal book ≡ n → Refused book ⊎ IsBook book
+    go : (n : ℕ) → refusal book ≡ n
+        → ((i : ℕ) × FirstAt (faults book) i × (refusal book ≡ numberOf (faults book) i)) ⊎ IsBook book
     go zero e = inr (book-exact book .0 e)
     go (suc n) e = inl (first-applies (faults book) (λ z. omega arith))
 
-pub refused-no-book : (book : List ℕ) → Refused book → IsBook book → ⊥
+pub refused-no-book : (book : List ℕ) (i : ℕ) → FirstAt (faults book) i → IsBook book → ⊥
 unfolding refusal
-refused-no-book book r b =
+refused-no-book book i first b =
     let named = bodies-numbered (length book) (firstBody (countIn book)) (entriesOf book) in
-    let none = none-exact (faults book) named .0 (book-exact book .1 b) (r .0) in
-    true≢false (sym (r .1 .applies) ∙ none)
+    let none = none-exact (faults book) named .0 (book-exact book .1 b) i in
+    true≢false (sym (first .applies) ∙ none)

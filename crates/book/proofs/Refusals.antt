@@ -1,12 +1,12 @@
 -- What it means that a refusal is 0: none of the checks applies, so that each of their facts holds.
 use mathlib.Core.Path.{_≡_, refl, sym}
 use mathlib.Core.Bool.{Bool, true, false, not}
-use mathlib.Core.List.{List}
-use Prim.Native.Nat.{ℕ, _*_, _≤_, _<_}
-use lib.Dec.{eqb}
+use mathlib.Core.List.{List, [], _∷_}
+use Prim.Native.Nat.{ℕ, _+_, _*_, _≤_}
+use lib.Dec.{ltb, eqb}
 use lib.ListN.{length, getD}
-use borrow.Author.Tests.{ltb-false, eqb-true, le-ltb, lt-ltb, eq-eqb}
-use Rattle.basics.specs.First.{firstOf}
+use borrow.Author.Tests.{ltb-false, eqb-true, le-ltb, eq-eqb}
+use Rattle.basics.specs.First.{_when_, firstOf}
 use Rattle.basics.proofs.First.{none-exact}
 use Rattle.book.specs.Format.{firstBody, bodyEnd, most, countIn}
 use Rattle.book.specs.Reader.{headFaults, entryFaults}
@@ -62,27 +62,16 @@ pub record Writable (contents : Contents) (bodies room : ℕ) : Type 0 where
   pub small : size contents bodies ≤ most
   pub roomy : size contents bodies ≤ room
 
-module _ (contents : Contents) (bodies room : ℕ) (few : contents .count ≤ 64)
-    (whole : bodies ≡ 4 * stepsOf (counted contents)) (small : size contents bodies ≤ most) where
-  pub too-short : room < size contents bodies → 29 ≡ writeRefusal contents bodies room
-  unfolding writeRefusal
-  too-short h =
-      simp (
-        le-ltb 64 (contents .count) few,
-        eq-eqb bodies (4 * stepsOf (counted contents)) whole,
-        le-ltb most (size contents bodies) small,
-        lt-ltb room (size contents bodies) h,
-      )
-
-  pub not-refused : size contents bodies ≤ room → 0 ≡ writeRefusal contents bodies room
-  unfolding writeRefusal
-  not-refused h =
-      simp (
-        le-ltb 64 (contents .count) few,
-        eq-eqb bodies (4 * stepsOf (counted contents)) whole,
-        le-ltb most (size contents bodies) small,
-        le-ltb room (size contents bodies) h,
-      )
+pub not-refused : (contents : Contents) (bodies room : ℕ) → Writable contents bodies room
+    → writeRefusal contents bodies room ≡ 0
+unfolding writeRefusal
+not-refused contents bodies room w =
+    simp (
+      le-ltb 64 (contents .count) (w .few),
+      eq-eqb bodies (4 * stepsOf (counted contents)) (w .whole),
+      le-ltb most (size contents bodies) (w .small),
+      le-ltb room (size contents bodies) (w .roomy),
+    )
 
 pub writable : (contents : Contents) (bodies room : ℕ) → writeRefusal contents bodies room ≡ 0
     → Writable contents bodies room
@@ -95,3 +84,16 @@ writable contents bodies room e =
       small = ltb-false most (size contents bodies) (none 2);
       roomy = ltb-false room (size contents bodies) (none 3);
     }
+
+-- the checks behind refusal 23, on the sum of the steps and the place of the first body as the code has them
+pub checks-behind : (contents : Contents) (bodies room steps first : ℕ) → contents .count ≤ 64
+    → steps ≡ stepsOf (counted contents) → first ≡ firstBody (contents .count)
+    → firstOf
+    ((30 when not (eqb bodies (4 * steps)))
+    ∷ (20 when ltb most (first + bodies))
+    ∷ (29 when ltb room (first + bodies))
+    ∷ [])
+    ≡ writeRefusal contents bodies room
+unfolding writeRefusal
+checks-behind contents bodies room steps first few summed placed =
+    rw (summed, placed, le-ltb 64 (contents .count) few)

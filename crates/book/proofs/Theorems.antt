@@ -9,14 +9,15 @@ use lib.Dec.{eqb}
 use lib.ListN.{length, getD, take, drop}
 use denote.Ref.{now}
 use Rattle.basics.specs.Fields.{sizeOf}
+use Rattle.basics.specs.First.{FirstAt, numberOf}
 use Rattle.basics.proofs.One.{OneAnswer, OneContent, OnePart, one-value, one-case}
 use Rattle.basics.proofs.Table.{every}
-use Rattle.book.specs.Format.{countIn, layout, entriesOf, firstBody, IsBook, bodyOf, joined, places, placed}
-use Rattle.book.specs.Reader.{refusal, reading}
+use Rattle.book.specs.Format.{countIn, layout, entriesOf, firstBody, IsBook, bodyOf, joined, places, placed, bookOf}
+use Rattle.book.specs.Reader.{faults, refusal, reading}
 use Rattle.book.specs.Writer.{counted, stepsOf, size, writeRefusal, writing, output}
 use Rattle.book.specs.declared.Contents.{Contents}
-use Rattle.book.proofs.Ordered.{order-ends, Refused, book-exact, refused-or-book, refused-no-book}
-use Rattle.book.proofs.Trips.{read-again, written-again}
+use Rattle.book.proofs.Ordered.{order-ends, book-exact, refused-or-book, refused-no-book}
+use Rattle.book.proofs.Trips.{read-again, written-again, book-format}
 use Rattle.book.proofs.read.Kinds as read-kinds
 use Rattle.book.proofs.read.Reads as read-fn
 use Rattle.book.proofs.read.Statement as read-statement
@@ -55,16 +56,26 @@ write-unique κs args x y s t p q = one-case (p .0) (q .0)
 output-unique : OneContent 2 write-kinds.ps write-kinds.r write-fn.Post (λ κs exit. now (exit .1 .1 .0))
 output-unique κs args x y s t p q = one-value (p .1) (q .1)
 
--- Exactly one of two: the first check that applies, in the paper's order, gives the refusal; or the bytes are a book, its
--- bodies in order without gaps, the first at 2 + 12k, the last ending with it.
-one-of-two : (book : List ℕ) → Refused book ⊎ IsBook book
+-- Exactly one of two: some check applies, and the first of them in the paper's order gives the refusal; or the bytes are a
+-- book, its bodies in order without gaps, the first at 2 + 12k, the last ending with it.
+one-of-two : (book : List ℕ)
+    → ((i : ℕ) × FirstAt (faults book) i × (refusal book ≡ numberOf (faults book) i)) ⊎ IsBook book
 one-of-two = refused-or-book
 
-not-both : (book : List ℕ) → Refused book → IsBook book → ⊥
+not-both : (book : List ℕ) (i : ℕ) → FirstAt (faults book) i → IsBook book → ⊥
 not-both = refused-no-book
 
 refusal-exact : (book : List ℕ) → (refusal book ≡ 0) ↔ IsBook book
 refusal-exact = book-exact
+
+-- And the books are just those that the writer writes.
+format-exact : (book : List ℕ) → ((i : ℕ) → getD book i 0 < 256)
+    → IsBook book
+    ↔ ((contents : Contents)
+    × (bodies : List ℕ)
+    × (writeRefusal contents (length bodies) (length book) ≡ 0)
+    × (bookOf (counted contents) bodies ≡ book))
+format-exact = book-format
 
 -- An entry takes 12 bytes, and a book 2 + 12k + 4 for each step; so none has more than 65,534.
 entry-size : sizeOf layout ≡ 12

@@ -1,7 +1,8 @@
 -- Round trips: what is read and written again, and what is written and read again.
-use mathlib.Core.Path.{_≡_, refl, sym, ap, _∙_}
+use mathlib.Core.Path.{_≡_, refl, sym, ap, subst, _∙_}
 use mathlib.Core.Bool.{Bool, true, false}
 use mathlib.Core.List.{List, [], _∷_, _++_, append-assoc}
+use mathlib.Core.Logic.{_↔_}
 use Prim.Native.Nat.{ℕ, zero, suc, _+_, _*_, _≤_, _<_}
 use native.Mathlib.Omega.{arith}
 use lib.Dec.{eqb}
@@ -145,10 +146,13 @@ module _ (book : List ℕ) (e : refusal book ≡ 0) where
       again-none : writeRefusal (readContents book) (length (joined book (entriesOf book))) (length out) ≡ 0
       again-none =
           let b = is-book in
-          sym
-          (not-refused (readContents book) (length (joined book (entriesOf book))) (length out) (b .few)
-          (bodies-size ∙ ap (λ (es : List Entry). 4 * stepsOf es) (sym read-counted)) (omega (arith, whole-size, b .small))
-          (omega (arith, whole-size)))
+          not-refused (readContents book) (length (joined book (entriesOf book))) (length out)
+          (record {
+            few = b .few;
+            whole = bodies-size ∙ ap (λ (es : List Entry). 4 * stepsOf es) (sym read-counted);
+            small = omega (arith, whole-size, b .small);
+            roomy = omega (arith, whole-size);
+          })
 
       pub again-writing :
           writing (readContents book) (length (joined book (entriesOf book))) (length out)
@@ -268,3 +272,26 @@ module _ (contents : Contents) (bodies out : List ℕ) (e : writeRefusal content
       × (joined book entries ≡ bodies)
       × (every (λ entry. eqb (length (bodyOf book entry)) (4 * entry .steps)) entries ≡ true)
   written-again = rw written-book (written-reading, written-joined, written-whole)
+
+-- the books are those that the writer writes
+pub book-format : (book : List ℕ) → ((i : ℕ) → getD book i 0 < 256)
+    → IsBook book
+    ↔ ((contents : Contents)
+    × (bodies : List ℕ)
+    × (writeRefusal contents (length bodies) (length book) ≡ 0)
+    × (bookOf (counted contents) bodies ≡ book))
+book-format book small = (forward, λ w. subst IsBook (w .3) (written-is (w .0) (w .1) book (w .2)))
+  where
+    forward : IsBook book
+        → (contents : Contents)
+        × (bodies : List ℕ)
+        × (writeRefusal contents (length bodies) (length book) ≡ 0)
+        × (bookOf (counted contents) bodies ≡ book)
+    forward b =
+        let e = book-exact book .1 b in
+        let bodies = joined book (entriesOf book) in (
+          readContents book,
+          bodies,
+          again-none book e small book (omega arith),
+          ap (λ (es : List Entry). bookOf es bodies) (read-counted book e) ∙ book-again book e small,
+        )

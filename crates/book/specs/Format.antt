@@ -56,7 +56,8 @@ firstBody k = 2 + 12 * k
 abbrev pub bodyEnd : ℕ → Entry → ℕ
 bodyEnd at e = at + 4 * e .steps
 
--- the bodies lie in order without gaps, the first one at a place, the last one ending with a book of that size
+-- spare bytes are 0 and the bodies lie in order without gaps, the first one at a place, the last one ending with a book of
+-- that size
 unfoldable pub InOrder : ℕ → ℕ → List Entry → Type 0
 InOrder size at [] = at ≡ size
 InOrder size at (e ∷ rest) = (e .spare ≡ 0) × (e .offset ≡ at) × InOrder size (bodyEnd at e) rest
@@ -65,6 +66,7 @@ InOrder size at (e ∷ rest) = (e .spare ≡ 0) × (e .offset ≡ at) × InOrder
 abbrev pub most : ℕ
 most = 65536
 
+-- what it is for bytes to be a book
 pub record IsBook (book : List ℕ) : Type 0 where
   pub small : length book ≤ most
   pub one : getD book 0 0 ≡ 1

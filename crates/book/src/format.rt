@@ -1,4 +1,5 @@
 // Where a book has what (01, 'Capture book').
+use crate::Contents;
 use crate::Entry;
 use basics::four_at;
 use basics::put_four;
@@ -6,6 +7,7 @@ use basics::put_two;
 use basics::two_at;
 ghost use Prim.Native.Nat.{_+_, _*_, _≤_};
 ghost use Rattle.book.specs.Format.{entryIn, entryBytes, firstBody, placedAt};
+ghost use Rattle.book.specs.Writer.{counted, stepsOf};
 ghost use lib.ListN.{length};
 ghost use lib.Seq.{sets};
 ghost use mathlib.Core.Path.{_≡_};
@@ -20,6 +22,22 @@ pub(crate) fn body_size(e: Entry) -> usize
     ensures { λ r. ⌜ r ≡ 4 * e .steps ⌝ }
 {
     4 * (e.steps as usize)
+}
+
+pub(crate) fn steps_in(contents: Contents) -> usize
+    requires { ⌜ contents .count ≤ 64 ⌝ }
+    ensures { λ r. ⌜ (r ≡ stepsOf (counted contents)) × (r ≤ 64 * 65535) ⌝ }
+{
+    let count = contents.count;
+    let entries = contents.entries;
+    let mut total = 0;
+    let mut i = 0;
+    while i < count as usize {
+        let e = entries[i];
+        total += e.steps as usize;
+        i += 1;
+    }
+    total
 }
 
 pub(crate) fn entry_in(part: &[u8]) -> Entry

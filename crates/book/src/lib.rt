@@ -47,11 +47,11 @@ pub enum Writing {
 pub fn read(book: &[u8]) -> Reading
     ensures { λ r. ⌜ r ≡ reading (now (book .entry)) ⌝ }
 {
-    let refusal = head_refusal(book);
-    if refusal == 0 {
+    let head = head_refusal(book);
+    if head == 0 {
         entries_read(book)
     } else {
-        refused(refusal)
+        refused(head)
     }
 }
 
@@ -75,10 +75,11 @@ pub fn write(contents: Contents, bodies: &[u8], out: &mut [u8]) -> Writing
     ensures { λ r. ⌜ Answers writingTold writingCase (writing contents (length (now (bodies .entry))) (length (now (out .entry)))) r ⌝ }
     ensures { λ _. ⌜ now (out .exit) ≡ output contents (now (bodies .entry)) (now (out .entry)) ⌝ }
 {
-    let refusal = write_refusal(contents, bodies.len(), out.len());
+    let refusal = write_refusal(contents, bodies, out.len());
     if refusal == 0 {
+        let size = first_body(contents.count) + bodies.len();
         put_book(contents, bodies, out);
-        Writing::Written(first_body(contents.count) + bodies.len())
+        Writing::Written(size)
     } else {
         Writing::Refused(refusal)
     }

@@ -58,16 +58,18 @@ pub(crate) fn head_refusal(book: &[u8]) -> u8
 }
 
 fn entry_refusal(size: usize, at: usize, e: Entry) -> u8
-    requires { ⌜ at ≤ most ⌝ }
+    requires { ⌜ (at ≤ most) × (size ≤ most) ⌝ }
     ensures { λ r. ⌜ r ≡ firstOf (entryFaults size at e) ⌝ }
 {
+    let elsewhere = e.offset as usize != at;
+    let past = size < at + body_size(e);
     if e.spare != 0 {
         return 25;
     }
-    if e.offset as usize != at {
+    if elsewhere {
         return 26;
     }
-    if size < at + body_size(e) {
+    if past {
         return 27;
     }
     0

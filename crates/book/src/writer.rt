@@ -4,8 +4,9 @@ use crate::format::body_size;
 use crate::format::first_body;
 use crate::format::placed_at;
 use crate::format::put_entry;
+use crate::format::steps_in;
 use crate::reader::MOST;
-ghost use Prim.Native.Nat.{_+_, _*_, _≤_};
+ghost use Prim.Native.Nat.{_+_, _*_};
 ghost use Rattle.book.specs.Format.{firstBody, placed, contentsBytes, bookOf};
 ghost use Rattle.book.specs.Writer.{counted, stepsOf, size, writeRefusal};
 ghost use lib.ListN.{length, drop};
@@ -13,38 +14,24 @@ ghost use lib.Seq.{sets};
 ghost use mathlib.Core.List.{_++_};
 ghost use mathlib.Core.Path.{_≡_};
 
-fn steps_in(contents: Contents) -> usize
-    requires { ⌜ contents .count ≤ 64 ⌝ }
-    ensures { λ r. ⌜ (r ≡ stepsOf (counted contents)) × (r ≤ 64 * 65535) ⌝ }
-{
-    let count = contents.count;
-    let entries = contents.entries;
-    let mut total = 0;
-    let mut i = 0;
-    while i < count as usize {
-        let e = entries[i];
-        total += e.steps as usize;
-        i += 1;
-    }
-    total
-}
-
-pub(crate) fn write_refusal(contents: Contents, bodies: usize, room: usize) -> u8
-    ensures { λ r. ⌜ r ≡ writeRefusal contents bodies room ⌝ }
+pub(crate) fn write_refusal(contents: Contents, bodies: &[u8], room: usize) -> u8
+    ensures { λ r. ⌜ r ≡ writeRefusal contents (length (now (bodies .entry))) room ⌝ }
 {
     let count = contents.count;
     if 64 < count {
         return 23;
     }
-    let steps = steps_in(contents);
-    if bodies != 4 * steps {
+    let other = bodies.len() != 4 * steps_in(contents);
+    let size = first_body(count) + bodies.len();
+    let above = MOST < size;
+    let short = room < size;
+    if other {
         return 30;
     }
-    let size = first_body(count) + bodies;
-    if MOST < size {
+    if above {
         return 20;
     }
-    if room < size {
+    if short {
         return 29;
     }
     0
@@ -82,9 +69,10 @@ fn put_bodies(contents: Contents, bodies: &[u8], out: &mut [u8])
         let e = entries[i];
         let size = body_size(e);
         let to = from + size;
+        let end = at + size;
         bytes::copy(&bodies[from..to], &mut out[at..]);
-        at += size;
         from = to;
+        at = end;
         i += 1;
     }
 }

@@ -10,14 +10,14 @@ use Rattle.book.proofs.write.Tie as tie
 write-refusal-requires : tie.Need-write-refusal-requires
 write-refusal-requires c κs = search needs
 
-put-book-requires : tie.Need-put-book-requires
-put-book-requires c κs = search needs
-
 first-body-requires : tie.Need-first-body-requires
 first-body-requires c κs = search needs
 
-add-t14 : tie.Need-add-t14
-add-t14 c = search needs
+add-size : tie.Need-add-size
+add-size c = search needs
+
+put-book-requires : tie.Need-put-book-requires
+put-book-requires c κs = search needs
 
 same-length : tie.Need-same-length
 same-length c = search needs
@@ -27,8 +27,8 @@ returns c =
     let a = c .before .before .before .before .before .before .before .before .before .args in
     let none = sym (c .before .before .before .before .before .before .write-refusal .ensures) ∙ c .before .before .before .before .before .if1 .taken in (
       written-answer (a .contents) (a .bodies .now) (a .out .now) _ none
-          (ap (λ (n : ℕ). n + length (a .bodies .now)) (c .first-body .ensures)),
-      c .before .before .before .put-book .ensures ∙ written-output (a .contents) (a .bodies .now) (a .out .now) none,
+          (ap (λ (n : ℕ). n + length (a .bodies .now)) (c .before .before .before .before .first-body .ensures)),
+      c .before .before .put-book .ensures ∙ written-output (a .contents) (a .bodies .now) (a .out .now) none,
     )
 
 returns-2 : tie.Need-returns-2
@@ -44,9 +44,9 @@ write-spec =
     tie.close
     (tie.spec
     write-refusal-requires
-    put-book-requires
     first-body-requires
-    add-t14
+    add-size
+    put-book-requires
     same-length
     returns
     returns-2)

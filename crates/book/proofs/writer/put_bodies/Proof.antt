@@ -42,6 +42,14 @@ add-to c =
     (w .inv) (c .before .before .loop-test .taken) (c .body-size .result) (c .body-size .ensures) in
     record { fits = omega arith }
 
+add-end : tie.Need-add-end Inv-loop μ-loop
+add-end c =
+    let a = c .before .before .before .before .before .before .before .before .args in
+    let w = c .before .before .before .loop in
+    let room = join-room (a .bodies .now) (a .out .now) (w .out) (a .contents .count) (a .contents .entries) (w .at) (w .from) (w .i)
+    (w .inv) (c .before .before .loop-test .taken) (c .body-size .result) (c .body-size .ensures) in
+    record { fits = omega arith }
+
 sub-copy : tie.Need-sub-copy Inv-loop μ-loop
 sub-copy c = search needs
 
@@ -70,14 +78,6 @@ copy-requires c κs =
     let w = c .before .before .before .before .before .loop in
     join-fits (a .bodies .now) (a .out .now) (w .out) (a .contents .count) (a .contents .entries) (w .at) (w .from) (w .i)
     (w .inv) (c .before .before .before .before .loop-test .taken) (c .before .before .body-size .result) (c .before .before .body-size .ensures)
-
-add-at : tie.Need-add-at Inv-loop μ-loop
-add-at c =
-    let a = c .before .before .before .before .before .before .before .before .before .before .before .before .before .args in
-    let w = c .before .before .before .before .before .before .before .before .loop in
-    let room = join-room (a .bodies .now) (a .out .now) (w .out) (a .contents .count) (a .contents .entries) (w .at) (w .from) (w .i)
-    (w .inv) (c .before .before .before .before .before .before .before .loop-test .taken) (c .before .before .before .before .before .body-size .result) (c .before .before .before .before .before .body-size .ensures) in
-    record { fits = omega arith }
 
 add-i : tie.Need-add-i Inv-loop μ-loop
 add-i c = search needs
@@ -121,6 +121,7 @@ put-bodies-spec =
     array-copy-out-e
     body-size-requires
     add-to
+    add-end
     sub-copy
     part-copy-start
     part-copy-end
@@ -128,7 +129,6 @@ put-bodies-spec =
     part-copy-start-2
     part-copy-end-2
     copy-requires
-    add-at
     add-i
     loop-less
     loop-again

@@ -6,8 +6,8 @@ use lib.ListN.{drop}
 use borrow.Author.Needs.{needs}
 use Rattle.book.specs.Writer.{firstPlaces, stepsOf}
 use Rattle.book.proofs.Counted.{steps-next, steps-none}
-use Rattle.book.proofs.writer.steps_in.Statement.{statement}
-use Rattle.book.proofs.writer.steps_in.Tie as tie
+use Rattle.book.proofs.format.steps_in.Statement.{statement}
+use Rattle.book.proofs.format.steps_in.Tie as tie
 
 abbrev Inv-loop : tie.InvT-loop
 Inv-loop count entries total₀ i₀ total i =
