@@ -14,6 +14,7 @@
 //! the controller, `trials` for the capture book. Where they differ, neither has
 //! precedence: the paper decides which one is wrong.
 
+mod block;
 mod book;
 mod controller;
 mod pair;

@@ -2,54 +2,33 @@
 use book::Contents;
 use book::Entry;
 
-pub(crate) const PAPER: [u8; 46] = [
-    1,
-    2,
-    2,
-    0,
-    0,
-    0,
-    0,
-    3,
-    0,
-    0,
-    0,
-    26,
-    0,
-    3,
-    2,
-    0,
-    0,
-    0,
-    0,
-    3,
-    0,
-    0,
-    0,
-    38,
-    0,
-    2,
-    0x00,
-    0x08,
-    0xA2,
-    0x08,
-    0x22,
-    0x28,
-    0xA2,
-    0x28,
-    0x22,
-    0x28,
-    0x62,
-    0x28,
-    0x00,
-    0x08,
-    0xA2,
-    0x08,
-    0x22,
-    0x28,
-    0xA2,
-    0x08,
-];
+// How many bytes that book has, and where its bodies start.
+pub(crate) const PAPER: usize = 46;
+
+const BODIES: usize = 26;
+
+// The contents entry by entry, then the bodies step by step.
+pub(crate) fn put_paper(book: &mut [u8]) {
+    if book.len() < PAPER {
+        return;
+    }
+    bytes::copy(
+        b"\x01\x02\x02\x00\x00\x00\x00\x03\x00\x00\x00\x1A\x00\x03\x02\x00\x00\x00\x00\x03\x00\x00\x00\x26\x00\x02",
+        book,
+    );
+    bytes::copy(
+        b"\x00\x08\xA2\x08\x22\x28\xA2\x28\x22\x28\x62\x28\x00\x08\xA2\x08\x22\x28\xA2\x08",
+        &mut book[BODIES..],
+    );
+}
+
+pub(crate) fn paper_bodies(book: &[u8]) -> &[u8] {
+    if book.len() < BODIES {
+        book
+    } else {
+        &book[BODIES..]
+    }
+}
 
 // Byte j is 7 j + 3.
 pub(crate) fn fill_by_rule(bytes: &mut [u8]) {

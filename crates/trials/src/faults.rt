@@ -1,6 +1,7 @@
 // Refusals of the reader on the example book with something changed in it.
 use crate::drafts::PAPER;
 use crate::drafts::front;
+use crate::drafts::put_paper;
 use crate::rounds::print_reading;
 use book::read;
 use text::print;
@@ -9,70 +10,57 @@ use text::print_labelled;
 use text::print_list;
 use text::print_number;
 
-// A fault sets the byte at a place of the book, or its length, or nothing.
-const LENGTH: u32 = 100;
-
-const NOTHING: u32 = 101;
-
 const FAULTS: usize = 26;
 
-const PLACES: [u32; FAULTS] = [
-    NOTHING,
-    LENGTH,
-    LENGTH,
-    LENGTH,
-    0,
-    0,
-    1,
-    1,
-    LENGTH,
-    1,
-    3,
-    15,
-    11,
-    11,
-    8,
-    23,
-    13,
-    25,
-    24,
-    LENGTH,
-    LENGTH,
-    25,
-    LENGTH,
-    13,
-    1,
-    LENGTH,
-];
+// What a fault sets: the byte at a place, or the length of the book.
+struct Change {
+    pub at: usize,
+    pub to: usize,
+}
 
-const VALUES: [u32; FAULTS] = [
-    0,
-    65537,
-    1,
-    0,
-    2,
-    0,
-    65,
-    255,
-    25,
-    4,
-    1,
-    255,
-    27,
-    25,
-    1,
-    39,
-    6,
-    3,
-    255,
-    45,
-    47,
-    1,
-    65536,
-    4,
-    1,
-    26,
-];
+// The places that stand for the length and for nothing.
+const LENGTH: usize = 100;
+
+const NOWHERE: usize = 101;
+
+fn byte(at: usize, to: usize) -> Change {
+    Change { at, to }
+}
+
+fn length(to: usize) -> Change {
+    Change { at: LENGTH, to }
+}
+
+fn change_of(f: usize) -> Change {
+    match f {
+        1 => length(65537),
+        2 => length(1),
+        3 => length(0),
+        4 => byte(0, 2),
+        5 => byte(0, 0),
+        6 => byte(1, 65),
+        7 => byte(1, 255),
+        8 => length(25),
+        9 => byte(1, 4),
+        10 => byte(3, 1),
+        11 => byte(15, 255),
+        12 => byte(11, 27),
+        13 => byte(11, 25),
+        14 => byte(8, 1),
+        15 => byte(23, 39),
+        16 => byte(13, 6),
+        17 => byte(25, 3),
+        18 => byte(24, 255),
+        19 => length(45),
+        20 => length(47),
+        21 => byte(25, 1),
+        22 => length(65536),
+        23 => byte(13, 4),
+        24 => byte(1, 1),
+        25 => length(26),
+        _ => byte(NOWHERE, 0),
+    }
+}
 
 fn set_byte(book: &mut [u8], at: usize, b: u8) {
     if at < book.len() {
@@ -80,29 +68,16 @@ fn set_byte(book: &mut [u8], at: usize, b: u8) {
     }
 }
 
-fn put_paper(book: &mut [u8]) {
-    if 46 <= book.len() {
-        bytes::copy(&PAPER, book);
-    }
-}
-
 fn put_fault(book: &mut [u8], f: usize) {
-    let place = PLACES[f % FAULTS];
-    if place < LENGTH {
-        set_byte(book, place as usize, (VALUES[f % FAULTS] % 256) as u8);
+    let change = change_of(f);
+    if change.at < LENGTH {
+        set_byte(book, change.at, (change.to % 256) as u8);
     }
 }
 
-fn wide(x: u32) -> usize {
-    x as usize
-}
-
-fn length_with(f: usize, length: usize) -> usize {
-    if PLACES[f % FAULTS] == LENGTH {
-        wide(VALUES[f % FAULTS])
-    } else {
-        length
-    }
+fn length_with(f: usize, old: usize) -> usize {
+    let change = change_of(f);
+    if change.at == LENGTH { change.to } else { old }
 }
 
 fn refusal_of(book: &[u8], length: usize) -> u8 {
@@ -114,7 +89,7 @@ fn put_pair(book: &mut [u8], f: usize, g: usize) -> usize {
     put_paper(book);
     put_fault(book, f);
     put_fault(book, g);
-    length_with(g, length_with(f, 46))
+    length_with(g, length_with(f, PAPER))
 }
 
 fn print_alone(book: &mut [u8]) {
@@ -166,7 +141,7 @@ fn count_values(counts: &mut [u32], book: &mut [u8], place: usize) {
     while v < 256 {
         put_paper(book);
         set_byte(book, place, (v % 256) as u8);
-        count_refusal(counts, refusal_of(book, 46));
+        count_refusal(counts, refusal_of(book, PAPER));
         v += 1;
     }
 }
@@ -193,7 +168,7 @@ fn print_lengths(book: &mut [u8]) {
     put_paper(book);
     print_number(refusal_of(book, 0) as u64);
     let mut length = 1;
-    while length <= 46 {
+    while length <= PAPER {
         print_labelled(b" ", refusal_of(book, length) as u64);
         length += 1;
     }

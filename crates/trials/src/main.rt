@@ -11,13 +11,15 @@ const ROOM: usize = 65600;
 
 fn main() {
     let mut bodies = [0u8; ROOM];
+    let mut paper = [0u8; drafts::PAPER];
     let mut out = [0u8; ROOM];
     let mut joined = [0u8; ROOM];
     drafts::fill_by_rule(&mut bodies);
-    rounds::print_rounds(&bodies, &mut out, &mut joined);
+    drafts::put_paper(&mut paper);
+    rounds::print_rounds(&bodies, &paper, &mut out, &mut joined);
     let mut book = [0u8; ROOM];
     faults::print_faults(&mut book);
     faults::print_damage(&mut book);
     writer::print_calls(&bodies, &mut out);
-    parts::print_parts();
+    parts::print_parts(&paper);
 }

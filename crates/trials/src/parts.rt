@@ -1,16 +1,11 @@
 // The body of any entry, also of one that was not read.
-use crate::drafts::PAPER;
 use crate::rounds::print_part;
 use book::Entry;
 use text::print;
 use text::print_labelled;
 use text::print_number;
 
-const OFFSETS: [u32; 12] = [26, 38, 0, 46, 46, 45, 44, 47, 4294967295, 2, 0, 0];
-
-const STEPS: [u16; 12] = [3, 2, 0, 0, 1, 1, 1, 1, 65535, 65535, 11, 12];
-
-fn print_one(offset: u32, steps: u16) {
+fn print_one(book: &[u8], offset: u32, steps: u16) {
     print_number(offset as u64);
     print_labelled(b" ", steps as u64);
     let e = Entry {
@@ -21,14 +16,29 @@ fn print_one(offset: u32, steps: u16) {
         offset,
         steps,
     };
-    print_part(&PAPER, e);
+    print_part(book, e);
 }
 
-pub(crate) fn print_parts() {
+fn print_inside(book: &[u8]) {
+    print_one(book, 26, 3);
+    print_one(book, 38, 2);
+    print_one(book, 0, 0);
+    print_one(book, 46, 0);
+}
+
+fn print_outside(book: &[u8]) {
+    print_one(book, 46, 1);
+    print_one(book, 45, 1);
+    print_one(book, 44, 1);
+    print_one(book, 47, 1);
+    print_one(book, 4294967295, 65535);
+    print_one(book, 2, 65535);
+    print_one(book, 0, 11);
+    print_one(book, 0, 12);
+}
+
+pub(crate) fn print_parts(book: &[u8]) {
     print(b"bodies\n");
-    let mut i = 0;
-    while i < 12 {
-        print_one(OFFSETS[i], STEPS[i]);
-        i += 1;
-    }
+    print_inside(book);
+    print_outside(book);
 }

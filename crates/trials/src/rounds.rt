@@ -1,11 +1,11 @@
 // Round trips: contents are written, the book is read, and what was read is written again.
 use crate::digest::of_bytes;
 use crate::digest::of_contents;
-use crate::drafts::PAPER;
 use crate::drafts::bodies_of;
 use crate::drafts::draft;
 use crate::drafts::fill;
 use crate::drafts::front;
+use crate::drafts::paper_bodies;
 use book::Contents;
 use book::Entry;
 use book::Reading;
@@ -147,19 +147,19 @@ fn print_name(kind: usize) {
 }
 
 // The example's bodies are its own, all others by the rule.
-fn print_kind(kind: usize, bodies: &[u8], out: &mut [u8], joined: &mut [u8]) {
+fn print_kind(kind: usize, bodies: &[u8], paper: &[u8], out: &mut [u8], joined: &mut [u8]) {
     print_name(kind);
     if kind == 1 {
-        print_round(kind, &PAPER[26..], out, joined);
+        print_round(kind, paper_bodies(paper), out, joined);
         return;
     }
     print_round(kind, front(bodies, bodies_of(kind)), out, joined);
 }
 
-pub(crate) fn print_rounds(bodies: &[u8], out: &mut [u8], joined: &mut [u8]) {
+pub(crate) fn print_rounds(bodies: &[u8], paper: &[u8], out: &mut [u8], joined: &mut [u8]) {
     let mut kind = 0;
     while kind < 6 {
-        print_kind(kind, bodies, out, joined);
+        print_kind(kind, bodies, paper, out, joined);
         kind += 1;
     }
 }

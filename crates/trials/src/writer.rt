@@ -11,118 +11,75 @@ use text::print_number;
 
 const FAULTS: usize = 14;
 
-// What a fault leaves as it was.
-const KEPT: u32 = 100000;
+// What the writer is handed: the count, the steps of places 0 and 1, the bytes of the bodies, the room of the output.
+struct Call {
+    pub count: u8,
+    pub first: u16,
+    pub second: u16,
+    pub bodies: usize,
+    pub room: usize,
+}
 
-const COUNTS: [u32; FAULTS] = [
-    KEPT,
-    65,
-    255,
-    KEPT,
-    KEPT,
-    KEPT,
-    1,
-    KEPT,
-    KEPT,
-    KEPT,
-    KEPT,
-    KEPT,
-    KEPT,
-    0,
-];
-
-const FIRST: [u32; FAULTS] = [
-    KEPT,
-    KEPT,
-    KEPT,
-    KEPT,
-    KEPT,
-    4,
-    KEPT,
-    65535,
-    16376,
-    KEPT,
-    KEPT,
-    KEPT,
-    16375,
-    KEPT,
-];
-
-const SECOND: [u32; FAULTS] = [
-    KEPT,
-    KEPT,
-    KEPT,
-    KEPT,
-    KEPT,
-    KEPT,
-    KEPT,
-    6,
-    2,
-    KEPT,
-    KEPT,
-    KEPT,
-    2,
-    KEPT,
-];
-
-const LENGTHS: [u32; FAULTS] = [
-    KEPT,
-    KEPT,
-    KEPT,
-    19,
-    24,
-    KEPT,
-    KEPT,
-    KEPT,
-    65512,
-    KEPT,
-    KEPT,
-    KEPT,
-    65508,
-    0,
-];
-
-const ROOMS: [u32; FAULTS] = [
-    KEPT,
-    KEPT,
-    KEPT,
-    KEPT,
-    KEPT,
-    KEPT,
-    KEPT,
-    KEPT,
-    KEPT,
-    45,
-    0,
-    65600,
-    65534,
-    KEPT,
-];
-
-// A number as two faults leave it, the second on top of the first.
-fn left(first: u32, second: u32, old: u32) -> u32 {
-    if second != KEPT {
-        return second;
+impl Call {
+    fn counting(mut self, count: u8) -> Call {
+        self.count = count;
+        self
     }
-    if first != KEPT { first } else { old }
+
+    fn stepping(mut self, first: u16, second: u16) -> Call {
+        self.first = first;
+        self.second = second;
+        self
+    }
+
+    fn joining(mut self, bodies: usize) -> Call {
+        self.bodies = bodies;
+        self
+    }
+
+    fn within(mut self, room: usize) -> Call {
+        self.room = room;
+        self
+    }
+
+    fn with_fault(self, f: usize) -> Call {
+        match f {
+            1 => self.counting(65),
+            2 => self.counting(255),
+            3 => self.joining(19),
+            4 => self.joining(24),
+            5 => self.stepping(4, self.second),
+            6 => self.counting(1),
+            7 => self.stepping(65535, 6),
+            8 => self.stepping(16376, 2).joining(65512),
+            9 => self.within(45),
+            10 => self.within(0),
+            11 => self.within(65600),
+            12 => self.stepping(16375, 2).joining(65508).within(65534),
+            13 => self.counting(0).joining(0),
+            _ => self,
+        }
+    }
+
+    fn contents(self) -> Contents {
+        let mut entries = [place(9, 9, 9, 9); 64];
+        entries[0] = place(2, 0, 3, self.first);
+        entries[1] = place(2, 0, 3, self.second);
+        Contents {
+            count: self.count,
+            entries,
+        }
+    }
 }
 
-fn handed(count: u8, first: u16, second: u16) -> Contents {
-    let mut entries = [place(9, 9, 9, 9); 64];
-    entries[0] = place(2, 0, 3, first);
-    entries[1] = place(2, 0, 3, second);
-    Contents { count, entries }
-}
-
-fn handed_with(f: usize, g: usize) -> Contents {
-    let count = left(COUNTS[f % FAULTS], COUNTS[g % FAULTS], 2);
-    let first = left(FIRST[f % FAULTS], FIRST[g % FAULTS], 3);
-    let second = left(SECOND[f % FAULTS], SECOND[g % FAULTS], 2);
-    handed(
-        (count % 256) as u8,
-        (first % 65536) as u16,
-        (second % 65536) as u16,
-    )
+fn paper_call() -> Call {
+    Call {
+        count: 2,
+        first: 3,
+        second: 2,
+        bodies: 20,
+        room: 46,
+    }
 }
 
 fn write_within(contents: Contents, bodies: &[u8], out: &mut [u8], room: usize) {
@@ -132,12 +89,11 @@ fn write_within(contents: Contents, bodies: &[u8], out: &mut [u8], room: usize) 
 }
 
 fn print_call(f: usize, g: usize, bodies: &[u8], out: &mut [u8]) {
-    let length = left(LENGTHS[f % FAULTS], LENGTHS[g % FAULTS], 20) as usize;
-    let room = left(ROOMS[f % FAULTS], ROOMS[g % FAULTS], 46) as usize;
+    let call = paper_call().with_fault(f).with_fault(g);
     fill(out, 238);
     print_number(f as u64);
     print_labelled(b" ", g as u64);
-    write_within(handed_with(f, g), front(bodies, length), out, room);
+    write_within(call.contents(), front(bodies, call.bodies), out, call.room);
     print_digest(out);
 }
 

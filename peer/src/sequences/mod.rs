@@ -8,10 +8,9 @@ mod steps;
 mod table;
 mod walks;
 
+use crate::block::Block;
 use crate::controller::{self, Answer, Record};
 use std::io::{self, Write};
-
-type Block<W> = fn(&mut W) -> io::Result<()>;
 
 pub fn write<W: Write>(out: &mut W) -> io::Result<()> {
     coder::write(out)?;
@@ -86,12 +85,7 @@ fn fresh(n: u8, mask: u16, w: u16) -> Record {
 #[cfg(test)]
 mod tests {
     use super::*;
-
-    pub(super) fn printed(block: Block<Vec<u8>>) -> String {
-        let mut out = Vec::new();
-        block(&mut out).expect("memory takes every write");
-        String::from_utf8(out).expect("the tables are text")
-    }
+    use crate::block::printed;
 
     /// What a comparison byte for byte would trip over first.
     #[test]

@@ -204,8 +204,8 @@ pub(super) fn write_by_the_record(out: &mut impl Write) -> io::Result<()> {
 
 #[cfg(test)]
 mod tests {
-    use super::super::tests::printed;
     use super::*;
+    use crate::block::printed;
 
     #[test]
     fn the_number_of_sections_is_judged_before_the_mask() {

@@ -198,8 +198,8 @@ fn write_step(out: &mut impl Write, given: Given, answer: &Answer) -> io::Result
 
 #[cfg(test)]
 mod tests {
-    use super::super::tests::printed;
     use super::*;
+    use crate::block::printed;
 
     #[test]
     fn titles_and_steps_have_their_form() {

@@ -94,8 +94,8 @@ pub(super) fn write(out: &mut impl Write) -> io::Result<()> {
 
 #[cfg(test)]
 mod tests {
-    use super::super::tests::printed;
     use super::*;
+    use crate::block::printed;
 
     /// The bytes C to A and A to C as document 003 prints them. Who steps and
     /// where the selectors stand is read off its columns of actions.

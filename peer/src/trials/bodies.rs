@@ -37,8 +37,8 @@ pub(super) fn write(out: &mut impl Write) -> io::Result<()> {
 
 #[cfg(test)]
 mod tests {
-    use super::super::tests::printed;
     use super::*;
+    use crate::block::printed;
 
     #[test]
     fn lengths_are_those_the_book_has_room_for() {

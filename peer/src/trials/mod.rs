@@ -7,11 +7,10 @@ mod reader;
 mod rounds;
 mod writer;
 
+use crate::block::Block;
 use crate::book::{self, Contents, Entry, Refusal, MOST_ENTRIES};
 use std::fmt::{self, Display, Formatter};
 use std::io::{self, Write};
-
-type Block<W> = fn(&mut W) -> io::Result<()>;
 
 pub fn write<W: Write>(out: &mut W) -> io::Result<()> {
     let blocks: [Block<W>; 7] = [
@@ -148,12 +147,7 @@ fn rule_bytes(length: usize) -> Vec<u8> {
 #[cfg(test)]
 mod tests {
     use super::*;
-
-    pub(super) fn printed(block: Block<Vec<u8>>) -> String {
-        let mut out = Vec::new();
-        block(&mut out).expect("memory takes every write");
-        String::from_utf8(out).expect("the tables are text")
-    }
+    use crate::block::printed;
 
     /// What a comparison byte for byte would trip over first.
     #[test]

@@ -149,8 +149,8 @@ pub(super) fn write_by_length(out: &mut impl Write) -> io::Result<()> {
 
 #[cfg(test)]
 mod tests {
-    use super::super::tests::printed;
     use super::*;
+    use crate::block::printed;
 
     /// By hand from the wording of the refusals.
     const REFUSALS: [u8; 26] = [

@@ -101,8 +101,8 @@ fn write_entry(out: &mut impl Write, entry: &Entry, body: &[u8]) -> io::Result<(
 
 #[cfg(test)]
 mod tests {
-    use super::super::tests::printed;
     use super::*;
+    use crate::block::printed;
 
     /// Counted by hand: 2 + 12k + four times the steps.
     #[test]

@@ -76,8 +76,9 @@ pub(super) fn write(out: &mut impl Write) -> io::Result<()> {
 
 #[cfg(test)]
 mod tests {
-    use super::super::{tests::printed, UNWRITTEN};
+    use super::super::UNWRITTEN;
     use super::*;
+    use crate::block::printed;
 
     fn answer_of(first: usize, second: usize) -> (u8, usize) {
         let writing = Tried::with_faults([FAULTS[first], FAULTS[second]]).write();

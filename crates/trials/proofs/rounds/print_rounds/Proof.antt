@@ -7,10 +7,10 @@ use Rattle.trials.proofs.rounds.print_rounds.Statement.{statement}
 use Rattle.trials.proofs.rounds.print_rounds.Tie as tie
 
 abbrev Inv-loop : tie.InvT-loop
-Inv-loop bodies out₀ joined₀ kind₀ out joined kind = (length out ≡ length out₀) × (length joined ≡ length joined₀) × (kind ≤ 6)
+Inv-loop bodies paper out₀ joined₀ kind₀ out joined kind = (length out ≡ length out₀) × (length joined ≡ length joined₀) × (kind ≤ 6)
 
 abbrev μ-loop : tie.MeasureT-loop
-μ-loop bodies out₀ joined₀ kind₀ out joined kind = 6 - kind
+μ-loop bodies paper out₀ joined₀ kind₀ out joined kind = 6 - kind
 
 loop-holds : tie.Need-loop-holds Inv-loop μ-loop
 loop-holds c = search needs
