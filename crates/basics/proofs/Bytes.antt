@@ -49,7 +49,12 @@ pub sets-part : (values bytes : List ℕ) (at : ℕ) → at + length values ≤ 
     → take at bytes ++ sets (drop at bytes) 0 values ≡ sets bytes at values
 sets-part values bytes at h =
     let fits : 0 + length values ≤ length (drop at bytes) = simp length-drop (omega arith) in
-    rw (sets-eq values (drop at bytes) 0 fits, sets-eq values bytes at h, drop-drop (0 + length values) at bytes, zero-add)
+    rw (
+      sets-eq values (drop at bytes) 0 fits,
+      sets-eq values bytes at h,
+      drop-drop (0 + length values) at bytes,
+      zero-add,
+    )
     (sym (append-assoc (take at bytes) values (drop (at + length values) bytes)))
 
 -- what is written from a place on leaves the bytes before it

@@ -32,8 +32,8 @@ two-right = two-back
 four-right : (bytes : List ℕ) (at v : ℕ) → at + 3 < length bytes → fourAt (sets bytes at (fourBytes v)) at ≡ v
 four-right = four-back
 
--- Numbers that were written by a layout, behind whatever and before whatever, are read back by it; and bytes that were read
--- by it, all of them below 256, are written again as they stood.
+-- Numbers that were written by a layout, wherever, are read back by it; and bytes that were read by it, all of them below
+-- 256, are written again as they stood.
 fields-right : (layout : List Width) (values before after : List ℕ) → length values ≡ length layout
     → fieldsAt layout (before ++ (fieldBytes layout values ++ after)) (length before) ≡ values
 fields-right = fields-back

@@ -79,7 +79,8 @@ module _ (contents : Contents) (bodies out filled after : List ℕ) (first : fil
       joined
       ∙ ap (sets out 0) whole
       ∙ sets-eq (bookOf (counted contents) bodies) out 0 (omega (arith, long, w .roomy))
-      ∙ ap (λ (n : ℕ). bookOf (counted contents) bodies ++ drop n out) (zero-add (length (bookOf (counted contents) bodies)) ∙ long)
+      ∙ ap (λ (n : ℕ). bookOf (counted contents) bodies ++ drop n out)
+      (zero-add (length (bookOf (counted contents) bodies)) ∙ long)
 
 -- what the writer answers, and what the output then holds, where it refuses nothing and where it refuses
 module _ (contents : Contents) (bodies out : List ℕ) where

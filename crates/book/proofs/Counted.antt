@@ -21,7 +21,9 @@ unfolding firstPlaces
 counted-at zero i entries h = absurd (not-suc-le-zero h)
 counted-at (suc k) zero entries h = refl
 counted-at (suc k) (suc i) entries h =
-    counted-at k i (drop 1 entries) (le-of-suc-le-suc h) ∙ getD-drop 1 entries i noEntry ∙ ap (λ (n : ℕ). getD entries n noEntry) (omega arith)
+    counted-at k i (drop 1 entries) (le-of-suc-le-suc h)
+    ∙ getD-drop 1 entries i noEntry
+    ∙ ap (λ (n : ℕ). getD entries n noEntry) (omega arith)
 
 -- the entries from i on, taken one further, and where none is left
 pub counted-next : (k i : ℕ) (entries : List Entry) → i < k

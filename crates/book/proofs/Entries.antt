@@ -27,7 +27,8 @@ entry-at zero i bytes h = absurd (not-suc-le-zero h)
 entry-at (suc k) zero bytes h = refl
 entry-at (suc k) (suc i) bytes h =
     let far : 12 + 12 * i ≡ 12 * suc i = omega arith in
-    entry-at k i (drop 12 bytes) (le-of-suc-le-suc h) ∙ ap entryIn (drop-drop (12 * i) 12 bytes ∙ ap (λ (n : ℕ). drop n bytes) far)
+    entry-at k i (drop 12 bytes) (le-of-suc-le-suc h)
+    ∙ ap entryIn (drop-drop (12 * i) 12 bytes ∙ ap (λ (n : ℕ). drop n bytes) far)
 
 -- the entry i of a book stands 12 bytes a place behind the two first
 abbrev pub entryOf : List ℕ → ℕ → Entry
@@ -76,7 +77,7 @@ walk-start book e =
       filled = refl;
     }
 
-module _ (book : List ℕ) (entries : List Entry) (at i : ℕ) (walk : Walk book entries at i) where
+module _ {book : List ℕ} {entries : List Entry} {at i : ℕ} (walk : Walk book entries at i) where
   next-first : i < countIn book → let e = entryOf book i in
       firstOf (entryFaults (length book) at e ++ bodyFaults (length book) (bodyEnd at e) (drop (i + 1) (entriesOf book)))
       ≡ refusal book
@@ -95,9 +96,7 @@ module _ (book : List ℕ) (entries : List Entry) (at i : ℕ) (walk : Walk book
         within = omega arith;
         before = sound (length book) at e none .inside;
         first =
-            sym
-            (first-behind checks (bodyFaults (length book) (bodyEnd at e) rest) refl none)
-            ∙ next-first h;
+            sym (first-behind checks (bodyFaults (length book) (bodyEnd at e) rest) refl none) ∙ next-first h;
         filled =
             ap (λ (n : ℕ). sets (set entries i e) n rest) (add-one i)
             ∙ ap (λ (es : List Entry). sets entries i es) (sym (rest-entries book i h))

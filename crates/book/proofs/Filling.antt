@@ -47,7 +47,7 @@ fill-start contents bodies out e =
     let w = writable contents bodies (length out) e in
     record { few = w .few; within = omega arith; same = refl; roomy = omega arith; small = omega arith; filled = refl }
 
-module _ (before out : List ℕ) (count : ℕ) (entries : List Entry) (at i : ℕ)
+module _ {before out : List ℕ} {count : ℕ} {entries : List Entry} {at i : ℕ}
     (filling : Filling before out count entries at i) where
   module _ (h : i < count) (size : ℕ) (sized : size ≡ 4 * getD entries i noEntry .steps) where
     pub fill-inside : at + size ≤ most
@@ -55,7 +55,8 @@ module _ (before out : List ℕ) (count : ℕ) (entries : List Entry) (at i : �
 
     pub fill-next : (part : List ℕ)
         → part
-        ≡ sets (take (length out - (2 + 12 * i)) (drop (2 + 12 * i) out)) 0 (entryBytes (placedAt at (getD entries i noEntry)))
+        ≡ sets (take (length out - (2 + 12 * i)) (drop (2 + 12 * i) out)) 0
+        (entryBytes (placedAt at (getD entries i noEntry)))
         → Filling before (back out (2 + 12 * i) part) count entries (at + size) (i + 1)
     unfolding placed contentsBytes
     fill-next part e =
@@ -84,7 +85,8 @@ module _ (before out : List ℕ) (count : ℕ) (entries : List Entry) (at i : �
       → out ≡ sets before 2 (contentsBytes (placed (firstBody count) (firstPlaces count entries)))
   unfolding placed contentsBytes
   fill-done h =
-      ap (λ (es : List Entry). sets out (2 + 12 * i) (contentsBytes (placed at es))) (sym (counted-none count i entries h))
+      ap (λ (es : List Entry). sets out (2 + 12 * i) (contentsBytes (placed at es)))
+      (sym (counted-none count i entries h))
       ∙ filling .filled
 
 -- what copying bytes to the start of a part leaves there
@@ -116,7 +118,7 @@ join-start contents bodies out e =
       joins = refl;
     }
 
-module _ (bodies before out : List ℕ) (count : ℕ) (entries : List Entry) (at from i : ℕ)
+module _ {bodies before out : List ℕ} {count : ℕ} {entries : List Entry} {at from i : ℕ}
     (joining : Joining bodies before out count entries at from i) where
   pub join-done : count ≤ i → out ≡ sets before (firstBody count) bodies
   join-done h =
@@ -135,7 +137,8 @@ module _ (bodies before out : List ℕ) (count : ℕ) (entries : List Entry) (at
 
     length-body : length (take (from + size - from) (drop from bodies)) ≡ size
     length-body =
-        length-take-le (from + size - from) (drop from bodies) (simp length-drop (omega (arith, join-inside))) ∙ omega arith
+        length-take-le (from + size - from) (drop from bodies) (simp length-drop (omega (arith, join-inside)))
+        ∙ omega arith
 
     pub join-fits :
         length (take (from + size - from) (drop from bodies)) ≤ length (take (length out - at) (drop at out))

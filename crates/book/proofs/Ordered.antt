@@ -12,7 +12,8 @@ use borrow.Author.Tests.{ltb-false, le-ltb, eq-eqb}
 use Rattle.basics.specs.First.{Check, firstOf, numberOf, FirstAt}
 use Rattle.basics.proofs.First.{numbered, none-exact, none-both, first-applies}
 use Rattle.basics.proofs.Table.{every}
-use Rattle.book.specs.Format.{countIn, entriesOf, firstBody, bodyEnd, InOrder, most, IsBook, bodyOf, joined, placedAt, placed}
+use Rattle.book.specs.Format.{countIn, entriesOf, firstBody, bodyEnd, InOrder, most, IsBook, bodyOf}
+use Rattle.book.specs.Format.{joined, placedAt, placed}
 use Rattle.book.specs.Reader.{headFaults, entryFaults, bodyFaults, faults, refusal}
 use Rattle.book.specs.Writer.{stepsOf}
 use Rattle.book.specs.declared.Entry.{Entry}

@@ -56,8 +56,8 @@ write-unique κs args x y s t p q = one-case (p .0) (q .0)
 output-unique : OneContent 2 write-kinds.ps write-kinds.r write-fn.Post (λ κs exit. now (exit .1 .1 .0))
 output-unique κs args x y s t p q = one-value (p .1) (q .1)
 
--- Exactly one of two: some check applies, and the first of them in the paper's order gives the refusal; or the bytes are a
--- book, its bodies in order without gaps, the first at 2 + 12k, the last ending with it.
+-- Exactly one of two: some check applies, and the first of them in the paper's order gives the refusal; or the bytes are
+-- a book, its bodies in order without gaps, the first at 2 + 12k, the last ending with it.
 one-of-two : (book : List ℕ)
     → ((i : ℕ) × FirstAt (faults book) i × (refusal book ≡ numberOf (faults book) i)) ⊎ IsBook book
 one-of-two = refused-or-book
@@ -89,7 +89,8 @@ book-largest book b = let long = book-size book b in omega (arith, b .small)
 
 -- A book that is read and written again is that book, byte for byte, at the start of the output, with the rest of the
 -- output as it was. (The bodies are what `body` hands out for the entries that were read, joined.)
-read-write : (book out : List ℕ) → ((i : ℕ) → getD book i 0 < 256) → reading book .refusal ≡ 0 → length book ≤ length out →
+read-write : (book out : List ℕ) → ((i : ℕ) → getD book i 0 < 256) → reading book .refusal ≡ 0
+    → length book ≤ length out →
     let contents = reading book .contents in
     let bodies = joined book (counted contents) in
     (writing contents (length bodies) (length out) ≡ record { refusal = 0; bytes = length book })

@@ -11,8 +11,8 @@ use lib.Seq.{sets-eq, drop-at, drop-cons, drop-drop, take-at, take-add, getD-dro
 use borrow.Author.Tests.{eqb-true}
 use Rattle.basics.proofs.Fields.{fields-back, fields-again}
 use Rattle.basics.proofs.Table.{every}
-use Rattle.book.specs.Format.{countIn, layout, fields, named, entryIn, entryBytes, entriesIn, entriesOf, contentsBytes}
-use Rattle.book.specs.Format.{firstBody, InOrder, most, IsBook, bodyOf, joined, noEntry, places, placed, bookOf}
+use Rattle.book.specs.Format.{countIn, layout, fields, named, entryIn, entryBytes, entriesIn, entriesOf}
+use Rattle.book.specs.Format.{contentsBytes, firstBody, InOrder, most, IsBook, bodyOf, joined, noEntry, places, placed, bookOf}
 use Rattle.book.specs.Reader.{refusal, reading}
 use Rattle.book.specs.Writer.{firstPlaces, counted, stepsOf, size, writeRefusal, writing, output}
 use Rattle.book.specs.declared.Entry.{Entry}
@@ -55,8 +55,11 @@ entries-again zero bytes small h = refl
 entries-again (suc k) bytes small h =
     let whole : 12 * suc k ≡ 12 + 12 * k = omega arith in
     let small′ : (i : ℕ) → getD (drop 12 bytes) i 0 < 256 = λ i. rw (getD-drop 12 bytes i 0) (small (12 + i)) in
-    rw
-    (entry-again bytes small (omega arith), entries-again k (drop 12 bytes) small′ (simp length-drop (omega arith)), whole)
+    rw (
+      entry-again bytes small (omega arith),
+      entries-again k (drop 12 bytes) small′ (simp length-drop (omega arith)),
+      whole,
+    )
     (sym (take-add 12 (12 * k) bytes))
 
 -- the entries in the first places are those that count
@@ -232,7 +235,8 @@ module _ (contents : Contents) (bodies out : List ℕ) (e : writeRefusal content
       let w = writable contents (length bodies) (length out) e in
       made-book (counted contents) bodies (omega (arith, count-counted)) (w .whole) (omega (arith, count-counted))
 
-  pub written-entries : entriesOf (bookOf (counted contents) bodies) ≡ placed (firstBody (contents .count)) (counted contents)
+  written-entries :
+      entriesOf (bookOf (counted contents) bodies) ≡ placed (firstBody (contents .count)) (counted contents)
   written-entries =
       made-entries (counted contents) bodies ∙ ap (λ (k : ℕ). placed (firstBody k) (counted contents)) count-counted
 

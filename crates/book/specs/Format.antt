@@ -56,8 +56,8 @@ firstBody k = 2 + 12 * k
 abbrev pub bodyEnd : ℕ → Entry → ℕ
 bodyEnd at e = at + 4 * e .steps
 
--- spare bytes are 0 and the bodies lie in order without gaps, the first one at a place, the last one ending with a book of
--- that size
+-- spare bytes are 0 and the bodies lie in order without gaps, the first one at a place, the last one ending with a book
+-- of that size
 unfoldable pub InOrder : ℕ → ℕ → List Entry → Type 0
 InOrder size at [] = at ≡ size
 InOrder size at (e ∷ rest) = (e .spare ≡ 0) × (e .offset ≡ at) × InOrder size (bodyEnd at e) rest

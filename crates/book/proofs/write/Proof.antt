@@ -25,7 +25,8 @@ same-length c = search needs
 returns : tie.Need-returns
 returns c =
     let a = c .before .before .before .before .before .before .before .before .before .args in
-    let none = sym (c .before .before .before .before .before .before .write-refusal .ensures) ∙ c .before .before .before .before .before .if1 .taken in (
+    let taken = c .before .before .before .before .before in
+    let none = sym (taken .before .write-refusal .ensures) ∙ taken .if1 .taken in (
       written-answer (a .contents) (a .bodies .now) (a .out .now) _ none
           (ap (λ (n : ℕ). n + length (a .bodies .now)) (c .before .before .before .before .first-body .ensures)),
       c .before .before .put-book .ensures ∙ written-output (a .contents) (a .bodies .now) (a .out .now) none,

@@ -1,3 +1,4 @@
+-- `entry_in` meets its contract: its reads follow the layout.
 use Rattle.book.specs.Format.{entryIn}
 use borrow.Author.Needs.{needs}
 use Rattle.book.proofs.format.entry_in.Statement.{statement}
@@ -24,7 +25,14 @@ two-at-requires-3 c κs = search needs
 
 returns : tie.Need-returns
 unfolding entryIn
-returns c = simp (← c .two-at3 .ensures, ← c .before .four-at .ensures, ← c .before .before .two-at2 .ensures, ← c .before .before .before .two-at .ensures) (search tests)
+returns c =
+    simp (
+      ← c .two-at3 .ensures,
+      ← c .before .four-at .ensures,
+      ← c .before .before .two-at2 .ensures,
+      ← c .before .before .before .two-at .ensures,
+    )
+    (search tests)
 
 pub entry-in-spec : {M : Type 1} → statement M
 entry-in-spec =

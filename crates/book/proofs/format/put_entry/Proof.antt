@@ -29,16 +29,18 @@ put-two-requires-3 c κs = search needs
 returns : tie.Need-returns
 unfolding entryBytes
 returns c =
+    let two = c .before .before .before .before .before .before .before .before .before .before in
     rw (
       c .before .before .put-two3 .ensures,
       c .before .before .before .before .before .before .put-four .ensures,
-      c .before .before .before .before .before .before .before .before .before .before .put-two2 .ensures,
-      c .before .before .before .before .before .before .before .before .before .before .before .before .before .before .put-two .ensures,
+      two .put-two2 .ensures,
+      two .before .before .before .before .put-two .ensures,
     )
 
 same-length : tie.Need-same-length
 same-length c =
-    let a = c .before .before .before .before .before .before .before .before .before .before .before .before .before .before .before .before .before .args in
+    let two = c .before .before .before .before .before .before .before .before .before .before in
+    let a = two .before .before .before .before .before .before .before .args in
     ap length (returns c) ∙ length-sets (a .part .now) 0 (entryBytes (a .e))
 
 pub put-entry-spec : {M : Type 1} → statement M

@@ -11,7 +11,10 @@ use Rattle.book.proofs.format.steps_in.Tie as tie
 
 abbrev Inv-loop : tie.InvT-loop
 Inv-loop count entries total₀ i₀ total i =
-    (i ≤ count) × (count ≤ 64) × (total ≤ 65535 * i) × (total + stepsOf (drop i (firstPlaces count entries)) ≡ stepsOf (firstPlaces count entries))
+    (i ≤ count)
+    × (count ≤ 64)
+    × (total ≤ 65535 * i)
+    × (total + stepsOf (drop i (firstPlaces count entries)) ≡ stepsOf (firstPlaces count entries))
 
 abbrev μ-loop : tie.MeasureT-loop
 μ-loop count entries total₀ i₀ total i = count - i

@@ -27,7 +27,9 @@ first-body-requires : tie.Need-first-body-requires Inv-loop μ-loop
 first-body-requires c κs = search needs
 
 loop-holds : tie.Need-loop-holds Inv-loop μ-loop
-loop-holds c = rw (c .first-body .ensures) (walk-start (c .before .before .before .args .book .now) (c .before .before .before .pre))
+loop-holds c =
+    let start = c .before .before .before in
+    rw (c .first-body .ensures) (walk-start (start .args .book .now) (start .pre))
 
 cast-loop : tie.Need-cast-loop Inv-loop μ-loop
 cast-loop c = search needs
@@ -62,7 +64,7 @@ returns c =
     let w = c .before .before .before .before .before .before .loop in
     let read = c .before .before .before .entry-in .ensures ∙ ap entryIn (rest-part (2 + 12 * w .i) book) in
     c .refused .ensures
-    ∙ walk-refused book (w .entries) (w .at) (w .i) (w .inv) (c .before .before .before .before .before .loop-test .taken)
+    ∙ walk-refused (w .inv) (c .before .before .before .before .before .loop-test .taken)
     (c .before .before .entry-refusal .result)
     (c .before .before .entry-refusal .ensures ∙ ap (λ (e : Entry). firstOf (entryFaults (length book) (w .at) e)) read)
     (c .before .if1 .taken)
@@ -91,7 +93,7 @@ loop-again c =
     let w = c .before .before .before .before .before .before .loop in
     let read = c .before .before .before .entry-in .ensures ∙ ap entryIn (rest-part (2 + 12 * w .i) book) in
     rw (c .body-size .ensures, read)
-    (walk-step book (w .entries) (w .at) (w .i) (w .inv) (c .before .before .before .before .before .loop-test .taken)
+    (walk-step (w .inv) (c .before .before .before .before .before .loop-test .taken)
     (ap (λ (e : Entry). firstOf (entryFaults (length book) (w .at) e)) (sym read)
     ∙ sym (c .before .before .entry-refusal .ensures)
     ∙ c .before .if1 .left))
@@ -101,14 +103,11 @@ refused-requires-2 c κs = search needs
 
 returns-2 : tie.Need-returns-2 Inv-loop μ-loop
 returns-2 c =
-    let w = c .before .before .before .loop in
     c .refused2 .ensures
-    ∙ walk-left-over (c .before .before .before .before .before .before .before .args .book .now) (w .entries) (w .at) (w .i) (w .inv) (c .before .before .loop-test .left) (c .before .if2 .taken)
+    ∙ walk-left-over (c .before .before .before .loop .inv) (c .before .before .loop-test .left) (c .before .if2 .taken)
 
 returns-3 : tie.Need-returns-3 Inv-loop μ-loop
-returns-3 c =
-    let w = c .before .before .loop in
-    walk-done (c .before .before .before .before .before .before .args .book .now) (w .entries) (w .at) (w .i) (w .inv) (c .before .loop-test .left) (c .if2 .left)
+returns-3 c = walk-done (c .before .before .loop .inv) (c .before .loop-test .left) (c .if2 .left)
 
 pub entries-read-spec : {M : Type 1} → statement M
 entries-read-spec =

@@ -20,10 +20,14 @@ returns-2 : tie.Need-returns-2
 returns-2 c = simp (c .if2 .taken) (search tests)
 
 returns-3 : tie.Need-returns-3
-returns-3 c = simp (c .if3 .taken, c .before .if2 .left, ← c .before .before .before .before .body-size .ensures) (search tests)
+returns-3 c =
+    simp (c .if3 .taken, c .before .if2 .left, ← c .before .before .before .before .body-size .ensures)
+    (search tests)
 
 returns-4 : tie.Need-returns-4
-returns-4 c = simp (c .if3 .left, c .before .if2 .left, ← c .before .before .before .before .body-size .ensures) (search tests)
+returns-4 c =
+    simp (c .if3 .left, c .before .if2 .left, ← c .before .before .before .before .body-size .ensures)
+    (search tests)
 
 pub entry-refusal-spec : {M : Type 1} → statement M
 entry-refusal-spec =

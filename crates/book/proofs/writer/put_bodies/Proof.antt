@@ -4,7 +4,8 @@ use Prim.Native.Nat.{_+_, _-_}
 use native.Mathlib.Omega.{arith}
 use lib.ListN.{length, take, drop}
 use borrow.Author.Needs.{needs}
-use Rattle.book.proofs.Filling.{Joining, join-start, join-inside, join-room, join-fits, join-next, join-done, copied}
+use Rattle.book.proofs.Filling.{Joining, join-start, join-inside, join-room, join-fits, join-next, join-done}
+use Rattle.book.proofs.Filling.{copied}
 use Rattle.book.proofs.writer.put_bodies.Statement.{statement}
 use Rattle.book.proofs.writer.put_bodies.Tie as tie
 
@@ -36,18 +37,14 @@ body-size-requires c κs = search needs
 
 add-to : tie.Need-add-to Inv-loop μ-loop
 add-to c =
-    let a = c .before .before .before .before .before .before .before .before .args in
-    let w = c .before .before .before .loop in
-    let inside = join-inside (a .bodies .now) (a .out .now) (w .out) (a .contents .count) (a .contents .entries) (w .at) (w .from) (w .i)
-    (w .inv) (c .before .before .loop-test .taken) (c .body-size .result) (c .body-size .ensures) in
+    let turn = c .before .before .loop-test .taken in
+    let inside = join-inside (c .before .before .before .loop .inv) turn (c .body-size .result) (c .body-size .ensures) in
     record { fits = omega arith }
 
 add-end : tie.Need-add-end Inv-loop μ-loop
 add-end c =
-    let a = c .before .before .before .before .before .before .before .before .args in
-    let w = c .before .before .before .loop in
-    let room = join-room (a .bodies .now) (a .out .now) (w .out) (a .contents .count) (a .contents .entries) (w .at) (w .from) (w .i)
-    (w .inv) (c .before .before .loop-test .taken) (c .body-size .result) (c .body-size .ensures) in
+    let turn = c .before .before .loop-test .taken in
+    let room = join-room (c .before .before .before .loop .inv) turn (c .body-size .result) (c .body-size .ensures) in
     record { fits = omega arith }
 
 sub-copy : tie.Need-sub-copy Inv-loop μ-loop
@@ -58,10 +55,8 @@ part-copy-start c = search needs
 
 part-copy-end : tie.Need-part-copy-end Inv-loop μ-loop
 part-copy-end c =
-    let a = c .before .before .before .before .before .before .before .before .args in
-    let w = c .before .before .before .loop in
-    join-inside (a .bodies .now) (a .out .now) (w .out) (a .contents .count) (a .contents .entries) (w .at) (w .from) (w .i)
-    (w .inv) (c .before .before .loop-test .taken) (c .body-size .result) (c .body-size .ensures)
+    let turn = c .before .before .loop-test .taken in
+    join-inside (c .before .before .before .loop .inv) turn (c .body-size .result) (c .body-size .ensures)
 
 sub-copy-2 : tie.Need-sub-copy-2 Inv-loop μ-loop
 sub-copy-2 c = search needs
@@ -74,10 +69,9 @@ part-copy-end-2 c = search needs
 
 copy-requires : tie.Need-copy-requires Inv-loop μ-loop
 copy-requires c κs =
-    let a = c .before .before .before .before .before .before .before .before .before .before .args in
-    let w = c .before .before .before .before .before .loop in
-    join-fits (a .bodies .now) (a .out .now) (w .out) (a .contents .count) (a .contents .entries) (w .at) (w .from) (w .i)
-    (w .inv) (c .before .before .before .before .loop-test .taken) (c .before .before .body-size .result) (c .before .before .body-size .ensures)
+    let turn = c .before .before .before .before .loop-test .taken in
+    let size = c .before .before .body-size in
+    join-fits (c .before .before .before .before .before .loop .inv) turn (size .result) (size .ensures)
 
 add-i : tie.Need-add-i Inv-loop μ-loop
 add-i c = search needs
@@ -87,26 +81,21 @@ loop-less c = search needs
 
 loop-again : tie.Need-loop-again Inv-loop μ-loop
 loop-again c =
-    let a = c .before .before .before .before .before .before .before .before .before .before .before .before .before .args in
+    let bodies = c .before .before .before .before .before .before .before .before .before .before .before .before .before .args .bodies .now in
     let w = c .before .before .before .before .before .before .before .before .loop in
+    let turn = c .before .before .before .before .before .before .before .loop-test .taken in
     let size = c .before .before .before .before .before .body-size in
-    let source = take (w .from + size .result - w .from) (drop (w .from) (a .bodies .now)) in
+    let source = take (w .from + size .result - w .from) (drop (w .from) bodies) in
     let part = take (length (w .out) - w .at) (drop (w .at) (w .out)) in
-    let fits = join-fits (a .bodies .now) (a .out .now) (w .out) (a .contents .count) (a .contents .entries) (w .at) (w .from) (w .i)
-    (w .inv) (c .before .before .before .before .before .before .before .loop-test .taken) (size .result) (size .ensures) in
-    join-next (a .bodies .now) (a .out .now) (w .out) (a .contents .count) (a .contents .entries) (w .at) (w .from) (w .i)
-    (w .inv) (c .before .before .before .before .before .before .before .loop-test .taken) (size .result) (size .ensures) (c .before .before .copy .last .1 .0)
-    (c .before .before .copy .ensures .1 ∙ copied source part fits)
+    join-next (w .inv) turn (size .result) (size .ensures) (c .before .before .copy .last .1 .0)
+    (c .before .before .copy .ensures .1
+    ∙ copied source part (join-fits (w .inv) turn (size .result) (size .ensures)))
 
 same-length : tie.Need-same-length Inv-loop μ-loop
 same-length c = search needs
 
 returns : tie.Need-returns Inv-loop μ-loop
-returns c =
-    let a = c .before .before .before .before .before .before .args in
-    let w = c .before .loop in
-    join-done (a .bodies .now) (a .out .now) (w .out) (a .contents .count) (a .contents .entries) (w .at) (w .from) (w .i)
-    (w .inv) (c .loop-test .left)
+returns c = join-done (c .before .loop .inv) (c .loop-test .left)
 
 pub put-bodies-spec : {M : Type 1} → statement M
 put-bodies-spec =

@@ -25,17 +25,21 @@ put-contents-requires c κs =
 put-bodies-requires : tie.Need-put-bodies-requires
 put-bodies-requires c κs =
     let a = c .before .before .before .before .before .before .before .args in
-    rw (c .before .before .before .put-contents .ensures, length-filled (a .contents) (a .out .now)) (c .before .before .before .before .before .before .before .pre)
+    rw (c .before .before .before .put-contents .ensures, length-filled (a .contents) (a .out .now))
+    (c .before .before .before .before .before .before .before .pre)
 
 same-length : tie.Need-same-length
 same-length c =
     let a = c .before .before .before .before .before .before .before .before .before .before .args in
-    length-after (a .contents) (a .bodies .now) (a .out .now) _ _ (c .before .before .before .before .before .before .put-contents .ensures) (c .before .before .put-bodies .ensures)
+    length-after (a .contents) (a .bodies .now) (a .out .now) _ _
+    (c .before .before .before .before .before .before .put-contents .ensures) (c .before .before .put-bodies .ensures)
 
 returns : tie.Need-returns
 returns c =
     let a = c .before .before .before .before .before .before .before .before .before .before .args in
-    book-written (a .contents) (a .bodies .now) (a .out .now) _ _ (c .before .before .before .before .before .before .put-contents .ensures) (c .before .before .put-bodies .ensures) (c .before .before .before .before .before .before .before .before .before .before .pre)
+    book-written (a .contents) (a .bodies .now) (a .out .now) _ _
+    (c .before .before .before .before .before .before .put-contents .ensures) (c .before .before .put-bodies .ensures)
+    (c .before .before .before .before .before .before .before .before .before .before .pre)
 
 pub put-book-spec : {M : Type 1} → statement M
 put-book-spec =

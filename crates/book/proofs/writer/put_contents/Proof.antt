@@ -24,7 +24,8 @@ first-body-requires c κs = search needs
 loop-holds : tie.Need-loop-holds Inv-loop μ-loop
 loop-holds c =
     let a = c .before .before .before .args in
-    rw (c .first-body .ensures) (fill-start (a .contents) (4 * stepsOf (counted (a .contents))) (a .out .now) (c .before .before .before .pre))
+    rw (c .first-body .ensures)
+    (fill-start (a .contents) (4 * stepsOf (counted (a .contents))) (a .out .now) (c .before .before .before .pre))
 
 cast-loop : tie.Need-cast-loop Inv-loop μ-loop
 cast-loop c = search needs
@@ -64,10 +65,8 @@ body-size-requires c κs = search needs
 
 add-at : tie.Need-add-at Inv-loop μ-loop
 add-at c =
-    let a = c .before .before .before .before .before .before .before .before .before .before .before .before .args in
-    let w = c .before .before .before .before .before .before .before .before .loop in
-    let inside = fill-inside (a .out .now) (w .out) (a .contents .count) (a .contents .entries) (w .at) (w .i) (w .inv) (c .before .before .before .before .before .before .before .loop-test .taken)
-    (c .body-size .result) (c .body-size .ensures) in
+    let turn = c .before .before .before .before .before .before .before .loop-test .taken in
+    let inside = fill-inside (c .before .before .before .before .before .before .before .before .loop .inv) turn (c .body-size .result) (c .body-size .ensures) in
     record { fits = omega arith }
 
 add-i : tie.Need-add-i Inv-loop μ-loop
@@ -78,21 +77,18 @@ loop-less c = search needs
 
 loop-again : tie.Need-loop-again Inv-loop μ-loop
 loop-again c =
-    let a = c .before .before .before .before .before .before .before .before .before .before .before .before .args in
     let w = c .before .before .before .before .before .before .before .before .loop in
+    let turn = c .before .before .before .before .before .before .before .loop-test .taken in
     let part = take (length (w .out) - (2 + 12 * w .i)) (drop (2 + 12 * w .i) (w .out)) in
-    fill-next (a .out .now) (w .out) (a .contents .count) (a .contents .entries) (w .at) (w .i) (w .inv) (c .before .before .before .before .before .before .before .loop-test .taken)
-    (c .body-size .result) (c .body-size .ensures) (c .before .before .before .put-entry .last .0)
-    (c .before .before .before .put-entry .ensures ∙ ap (λ (e : Entry). sets part 0 (entryBytes e)) (c .before .before .before .before .placed-at .ensures))
+    let entry = ap (λ (e : Entry). sets part 0 (entryBytes e)) (c .before .before .before .before .placed-at .ensures) in
+    fill-next (w .inv) turn (c .body-size .result) (c .body-size .ensures) (c .before .before .before .put-entry .last .0)
+    (c .before .before .before .put-entry .ensures ∙ entry)
 
 same-length : tie.Need-same-length Inv-loop μ-loop
 same-length c = search needs
 
 returns : tie.Need-returns Inv-loop μ-loop
-returns c =
-    let a = c .before .before .before .before .before .args in
-    let w = c .before .loop in
-    fill-done (a .out .now) (w .out) (a .contents .count) (a .contents .entries) (w .at) (w .i) (w .inv) (c .loop-test .left)
+returns c = fill-done (c .before .loop .inv) (c .loop-test .left)
 
 pub put-contents-spec : {M : Type 1} → statement M
 put-contents-spec =

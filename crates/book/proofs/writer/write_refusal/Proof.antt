@@ -50,10 +50,14 @@ returns-3 : tie.Need-returns-3
 returns-3 c = (simp (c .before .if2 .left, c .if3 .taken)) ∙ behind (c .before .before)
 
 returns-4 : tie.Need-returns-4
-returns-4 c = (simp (c .before .before .if2 .left, c .before .if3 .left, c .if4 .taken)) ∙ behind (c .before .before .before)
+returns-4 c =
+    (simp (c .before .before .if2 .left, c .before .if3 .left, c .if4 .taken))
+    ∙ behind (c .before .before .before)
 
 returns-5 : tie.Need-returns-5
-returns-5 c = (simp (c .before .before .if2 .left, c .before .if3 .left, c .if4 .left)) ∙ behind (c .before .before .before)
+returns-5 c =
+    (simp (c .before .before .if2 .left, c .before .if3 .left, c .if4 .left))
+    ∙ behind (c .before .before .before)
 
 pub write-refusal-spec : {M : Type 1} → statement M
 write-refusal-spec =
