@@ -1,12 +1,12 @@
 -- The entries of a book as they stand in its contents, and the walk through them that checks each and keeps it.
 use mathlib.Core.Path.{_≡_, refl, sym, ap, _∙_}
 use mathlib.Core.List.{List, [], _∷_, _++_}
-use Prim.Native.Nat.{ℕ, zero, suc, _+_, _*_, _≤_, _<_}
-use native.Mathlib.Nat.{le-of-suc-le-suc, not-suc-le-zero}
+use Prim.Native.Nat.{ℕ, zero, suc, _+_, _*_, _-_, _≤_, _<_}
+use native.Mathlib.Nat.{le-of-suc-le-suc, not-suc-le-zero, suc-sub-suc, sub-zero, zero-sub, zero-add}
 use native.Mathlib.Numerals.{add-one}
 use native.Mathlib.Omega.{arith}
-use lib.ListN.{length, getD, set, drop, replicate, drop-of-length-le}
-use lib.Seq.{sets, drop-cons, drop-drop}
+use lib.ListN.{length, getD, set, drop, replicate, length-replicate, drop-of-length-le}
+use lib.Seq.{sets, sets-eq, drop-cons, drop-drop}
 use borrow.Author.Tests.{lt-ltb, le-ltb, ne-eqb}
 use Rattle.basics.specs.First.{firstOf}
 use Rattle.basics.proofs.First.{first-behind, first-before}
@@ -43,6 +43,18 @@ rest-entries book i h =
     (ap (λ (e : Entry). e ∷ drop (suc i) (entriesOf book))
     (entry-at (countIn book) i (drop 2 book) h ∙ ap entryIn (drop-drop (12 * i) 2 book)))
 
+-- entries that are set in 64 places of zeros, one after the other
+drop-zeros : (n m : ℕ) → drop n (replicate m noEntry) ≡ replicate (m - n) noEntry
+drop-zeros zero m = ap (λ (k : ℕ). replicate k noEntry) (sym (sub-zero m))
+drop-zeros (suc n) zero = ap (λ (k : ℕ). replicate k noEntry) (sym (zero-sub (suc n)))
+drop-zeros (suc n) (suc m) = drop-zeros n m ∙ ap (λ (k : ℕ). replicate k noEntry) (sym (suc-sub-suc m n))
+
+set-places : (entries : List Entry) → length entries ≤ 64 → sets (replicate 64 noEntry) 0 entries ≡ places entries
+set-places entries h =
+    sets-eq entries (replicate 64 noEntry) 0 (omega (arith, length-replicate 64 noEntry))
+    ∙ ap (λ (l : List Entry). entries ++ l)
+    (drop-zeros (0 + length entries) 64 ∙ ap (λ (k : ℕ). replicate (64 - k) noEntry) (zero-add (length entries)))
+
 -- How far the walk has come: entries before i are without fault and kept, the body of the next one belongs at `at`. What
 -- is left of the checks decides the refusal, and what is left of the entries fills the places.
 pub record Walk (book : List ℕ) (entries : List Entry) (at i : ℕ) : Type 0 where
@@ -50,7 +62,7 @@ pub record Walk (book : List ℕ) (entries : List Entry) (at i : ℕ) : Type 0 w
   pub within : i ≤ countIn book
   pub before : at ≤ length book
   pub first : firstOf (bodyFaults (length book) at (drop i (entriesOf book))) ≡ refusal book
-  pub filled : sets entries i (drop i (entriesOf book)) ≡ places (entriesOf book)
+  pub filled : sets entries i (drop i (entriesOf book)) ≡ sets (replicate 64 noEntry) 0 (entriesOf book)
 
 refused-right : (book : List ℕ) (number : ℕ) → number ≡ refusal book → (number ≡ 0 → ⊥) → refused number ≡ reading book
 unfolding reading
@@ -129,6 +141,8 @@ module _ {book : List ℕ} {entries : List Entry} {at i : ℕ} (walk : Walk book
     unfolding bodyFaults reading
     walk-done h =
         let whole : entries ≡ places (entriesOf book) =
-        ap (λ (es : List Entry). sets entries i es) (sym none-left) ∙ walk .filled in
+        ap (λ (es : List Entry). sets entries i es) (sym none-left)
+        ∙ walk .filled
+        ∙ set-places (entriesOf book) (omega (arith, walk .head .few, length-entries (countIn book) (drop 2 book))) in
         let zero-refusal : refusal book ≡ 0 = sym last-first ∙ rw (le-ltb at (length book) h) in
         rw (zero-refusal, whole)

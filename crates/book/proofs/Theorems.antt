@@ -57,7 +57,7 @@ output-unique : OneContent 2 write-kinds.ps write-kinds.r write-fn.Post (λ κs 
 output-unique κs args x y s t p q = one-value (p .1) (q .1)
 
 -- Exactly one of two: some check applies, and the first of them in the paper's order gives the refusal; or the bytes are
--- a book, its bodies in order without gaps, the first at 2 + 12k, the last ending with it.
+-- a book: each body starts where the one before it ends, the first at 2 + 12k, and the last ends with the book.
 one-of-two : (book : List ℕ)
     → ((i : ℕ) × FirstAt (faults book) i × (refusal book ≡ numberOf (faults book) i)) ⊎ IsBook book
 one-of-two = refused-or-book

@@ -3,11 +3,11 @@ use mathlib.Core.Path.{_≡_, refl, sym, ap, subst, _∙_}
 use mathlib.Core.Bool.{Bool, true, false}
 use mathlib.Core.List.{List, [], _∷_, _++_, append-assoc}
 use mathlib.Core.Logic.{_↔_}
-use Prim.Native.Nat.{ℕ, zero, suc, _+_, _*_, _≤_, _<_}
+use Prim.Native.Nat.{ℕ, zero, suc, _+_, _*_, _-_, _≤_, _<_}
 use native.Mathlib.Omega.{arith}
 use lib.Dec.{eqb}
-use lib.ListN.{length, getD, take, drop, replicate, length-drop, length-replicate, take-append-drop}
-use lib.Seq.{sets-eq, drop-at, drop-cons, drop-drop, take-at, take-add, getD-drop}
+use lib.ListN.{length, getD, take, drop, replicate, length-drop, take-append-drop}
+use lib.Seq.{drop-at, drop-cons, drop-drop, take-at, take-add, getD-drop}
 use borrow.Author.Tests.{eqb-true}
 use Rattle.basics.proofs.Fields.{fields-back, fields-again}
 use Rattle.basics.proofs.Table.{every}
@@ -68,11 +68,8 @@ unfolding firstPlaces
 first-of [] after = refl
 first-of (e ∷ rest) after = ap (λ (es : List Entry). e ∷ es) (first-of rest after)
 
-places-first : (entries : List Entry) → length entries ≤ 64 → firstPlaces (length entries) (places entries) ≡ entries
-places-first entries h =
-    let room : 0 + length entries ≤ length (replicate 64 noEntry) = omega (arith, length-replicate 64 noEntry) in
-    ap (firstPlaces (length entries)) (sets-eq entries (replicate 64 noEntry) 0 room)
-    ∙ first-of entries (drop (0 + length entries) (replicate 64 noEntry))
+places-first : (entries : List Entry) → firstPlaces (length entries) (places entries) ≡ entries
+places-first entries = first-of entries (replicate (64 - length entries) noEntry)
 
 -- a book that was read
 abbrev pub readContents : List ℕ → Contents
@@ -99,9 +96,7 @@ module _ (book : List ℕ) (e : refusal book ≡ 0) where
 
   pub read-counted : counted (readContents book) ≡ entriesOf book
   read-counted =
-      let b = is-book in
-      ap (λ (k : ℕ). firstPlaces k (places (entriesOf book))) (sym count-entries)
-      ∙ places-first (entriesOf book) (omega (arith, count-entries, b .few))
+      ap (λ (k : ℕ). firstPlaces k (places (entriesOf book))) (sym count-entries) ∙ places-first (entriesOf book)
 
   pub read-joined : joined book (entriesOf book) ≡ drop (firstBody (countIn book)) book
   read-joined = joined-rest book (firstBody (countIn book)) (entriesOf book) (is-book .order)

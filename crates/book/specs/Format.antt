@@ -1,9 +1,8 @@
 -- The capture book (01, 'Capture book'), for the reader and for the writer.
 use mathlib.Core.Path.{_≡_}
 use mathlib.Core.List.{List, [], _∷_, _++_}
-use Prim.Native.Nat.{ℕ, zero, suc, _+_, _*_, _≤_}
+use Prim.Native.Nat.{ℕ, zero, suc, _+_, _*_, _-_, _≤_}
 use lib.ListN.{length, getD, take, drop, replicate}
-use lib.Seq.{sets}
 use Rattle.basics.specs.Fields.{Width, one, two, four, fieldsAt, fieldBytes}
 use Rattle.book.specs.declared.Entry.{Entry}
 
@@ -56,8 +55,8 @@ firstBody k = 2 + 12 * k
 abbrev pub bodyEnd : ℕ → Entry → ℕ
 bodyEnd at e = at + 4 * e .steps
 
--- spare bytes are 0 and the bodies lie in order without gaps, the first one at a place, the last one ending with a book
--- of that size
+-- spare bytes are 0, each body starts where the one before it ends, the first at a place, and the last ends with a book of
+-- that size
 unfoldable pub InOrder : ℕ → ℕ → List Entry → Type 0
 InOrder size at [] = at ≡ size
 InOrder size at (e ∷ rest) = (e .spare ≡ 0) × (e .offset ≡ at) × InOrder size (bodyEnd at e) rest
@@ -81,12 +80,12 @@ unfoldable pub joined : List ℕ → List Entry → List ℕ
 joined book [] = []
 joined book (e ∷ rest) = bodyOf book e ++ joined book rest
 
--- 64 places, the entries in the first of them, zeros past the count
+-- 64 places: the entries, and zeros past the count
 abbrev pub noEntry : Entry
 noEntry = record { n = 0; spare = 0; mask = 0; w = 0; offset = 0; steps = 0 }
 
 abbrev pub places : List Entry → List Entry
-places entries = sets (replicate 64 noEntry) 0 entries
+places entries = entries ++ replicate (64 - length entries) noEntry
 
 -- the entries with spare 0 and with the offsets at which their bodies belong
 abbrev pub placedAt : ℕ → Entry → Entry
