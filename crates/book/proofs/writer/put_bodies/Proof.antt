@@ -59,10 +59,16 @@ part-copy-end c =
     join-inside (c .before .before .before .loop .inv) turn (c .body-size .result) (c .body-size .ensures)
 
 sub-copy-2 : tie.Need-sub-copy-2 Inv-loop μ-loop
-sub-copy-2 c = search needs
+sub-copy-2 c =
+    let size = c .before .body-size in
+    let room = join-room (c .before .before .before .before .loop .inv) (c .before .before .before .loop-test .taken) (size .result) (size .ensures) in
+    search needs
 
 part-copy-start-2 : tie.Need-part-copy-start-2 Inv-loop μ-loop
-part-copy-start-2 c = search needs
+part-copy-start-2 c =
+    let size = c .before .body-size in
+    let room = join-room (c .before .before .before .before .loop .inv) (c .before .before .before .loop-test .taken) (size .result) (size .ensures) in
+    search needs
 
 part-copy-end-2 : tie.Need-part-copy-end-2 Inv-loop μ-loop
 part-copy-end-2 c = search needs
