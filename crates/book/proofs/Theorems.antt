@@ -16,7 +16,8 @@ use Rattle.book.specs.Format.{countIn, layout, entriesOf, firstBody, IsB
 use Rattle.book.specs.Reader.{faults, refusal, reading}
 use Rattle.book.specs.Writer.{counted, stepsOf, size, writeRefusal, writing, output}
 use Rattle.book.specs.declared.Contents.{Contents}
-use Rattle.book.proofs.Ordered.{order-ends, book-exact, refused-or-book, refused-no-book}
+use Rattle.book.proofs.Ordered.{order-ends, joined-rest, whole-bodies, book-exact, refused-or-book}
+use Rattle.book.proofs.Ordered.{refused-no-book}
 use Rattle.book.proofs.Trips.{read-again, written-again, book-format}
 use Rattle.book.proofs.read.Kinds as read-kinds
 use Rattle.book.proofs.read.Reads as read-fn
@@ -86,6 +87,15 @@ book-size book b = sym (order-ends (length book) (firstBody (countIn book)) (ent
 
 book-largest : (book : List ℕ) → IsBook book → length book ≤ 65534
 book-largest book b = let long = book-size book b in omega (arith, b .small)
+
+-- Of a book each body is whole, four bytes for each step; and joined they are all that stands behind the contents.
+bodies-whole : (book : List ℕ) → IsBook book
+    → every (λ e. eqb (length (bodyOf book e)) (4 * e .steps)) (entriesOf book) ≡ true
+bodies-whole book b = whole-bodies book (firstBody (countIn book)) (entriesOf book) (b .order)
+
+bodies-joined : (book : List ℕ) → IsBook book
+    → joined book (entriesOf book) ≡ drop (firstBody (countIn book)) book
+bodies-joined book b = joined-rest book (firstBody (countIn book)) (entriesOf book) (b .order)
 
 -- A book that is read and written again is that book, byte for byte, at the start of the output, with the rest of the
 -- output as it was. (The bodies are what `body` hands out for the entries that were read, joined.)
