@@ -9,25 +9,25 @@ use Rattle.basics.specs.Answer.{Answers}
 
 -- two calls with the same arguments, both as the promise allows: what is seen of their results and of the lent memory is
 -- the same
-abbrev pub OneOf : (n : ℕ) (ps : List (PK n)) (r : RK n) → Out n ps r → (Seen : Lfts n → Type 0)
+abbrev pub OneSeen : (n : ℕ) (ps : List (PK n)) (r : RK n) → Out n ps r → (Seen : Lfts n → Type 0)
     → ((κs : Lfts n) → resT r κs .Denot → AtExit (endedOf n ps r) κs → Seen κs) → Type 0
-OneOf n ps r promise Seen seen =
+OneSeen n ps r promise Seen seen =
     (κs : Lfts n) (args : Dens κs ps) (x y : resT r κs .Denot) (s t : AtExit (endedOf n ps r) κs)
     → promise κs args x s → promise κs args y t → seen κs x s ≡ seen κs y t
 
 -- the result itself
 abbrev pub OneAnswer : (n : ℕ) (ps : List (PK n)) (r : RK n) → Out n ps r → Type 0
-OneAnswer n ps r promise = OneOf n ps r promise (λ κs. resT r κs .Denot) (λ κs x s. x)
+OneAnswer n ps r promise = OneSeen n ps r promise (λ κs. resT r κs .Denot) (λ κs x s. x)
 
 -- what a result that is a part of something lent holds
 abbrev pub OnePart : (n : ℕ) (ps : List (PK n)) (r : RK n) → Out n ps r
     → ((κs : Lfts n) → resT r κs .Denot → List ℕ) → Type 0
-OnePart n ps r promise held = OneOf n ps r promise (λ κs. List ℕ) (λ κs x s. held κs x)
+OnePart n ps r promise held = OneSeen n ps r promise (λ κs. List ℕ) (λ κs x s. held κs x)
 
 -- what lent memory holds afterwards, `held` saying which parameter is meant
 abbrev pub OneContent : (n : ℕ) (ps : List (PK n)) (r : RK n) → Out n ps r
     → ((κs : Lfts n) → AtExit (endedOf n ps r) κs → List ℕ) → Type 0
-OneContent n ps r promise held = OneOf n ps r promise (λ κs. List ℕ) (λ κs x s. held κs s)
+OneContent n ps r promise held = OneSeen n ps r promise (λ κs. List ℕ) (λ κs x s. held κs s)
 
 -- an answer is as promised where it is the case that the numbers call for, and that case tells those numbers
 pub answers : {A B : Type 0} {told : A → B} {caseOf : B → A} {right : B} {answer : A}

@@ -14,8 +14,9 @@ use Rattle.basics.proofs.One.{OneAnswer, OneContent, OnePart, one-value, one-ca
 use Rattle.basics.proofs.Table.{every}
 use Rattle.book.specs.Format.{countIn, layout, entriesOf, firstBody, IsBook, bodyOf, joined, places, placed, bookOf}
 use Rattle.book.specs.Reader.{faults, refusal, reading}
-use Rattle.book.specs.Writer.{counted, stepsOf, size, writeRefusal, writing, output}
+use Rattle.book.specs.Writer.{counted, stepsOf, size, writeFaults, writeRefusal, writing, output}
 use Rattle.book.specs.declared.Contents.{Contents}
+use Rattle.book.proofs.Books.{write-refused}
 use Rattle.book.proofs.Ordered.{order-ends, joined-rest, whole-bodies, book-exact, refused-or-book}
 use Rattle.book.proofs.Ordered.{refused-no-book}
 use Rattle.book.proofs.Trips.{read-again, written-again, book-format}
@@ -69,7 +70,17 @@ not-both = refused-no-book
 refusal-exact : (book : List ℕ) → (refusal book ≡ 0) ↔ IsBook book
 refusal-exact = book-exact
 
--- And the books are just those that the writer writes.
+-- A refused write: the first check that applies gives the refusal, no bytes are written, and the output is as it was.
+write-refusal-right : (contents : Contents) (bodies out : List ℕ)
+    → (writeRefusal contents (length bodies) (length out) ≡ 0 → ⊥) →
+    let checks = writeFaults contents (length bodies) (length out) in
+    let number = writeRefusal contents (length bodies) (length out) in
+    ((i : ℕ) × FirstAt checks i × (number ≡ numberOf checks i))
+    × (writing contents (length bodies) (length out) ≡ record { refusal = number; bytes = 0 })
+    × (output contents bodies out ≡ out)
+write-refusal-right = write-refused
+
+-- The books are just those that the writer writes.
 format-exact : (book : List ℕ) → ((i : ℕ) → getD book i 0 < 256)
     → IsBook book
     ↔ ((contents : Contents)
