@@ -8,11 +8,9 @@ use lib.ListN.{length, set, drop, length-append, length-set}
 use lib.Seq.{sets, sets-eq, length-sets}
 use borrow.Author.Tests.{ne-eqb}
 use Rattle.basics.specs.Answer.{Answers}
-use Rattle.basics.specs.First.{numberOf, FirstAt}
-use Rattle.basics.proofs.First.{first-applies}
 use Rattle.basics.proofs.Bytes.{sets-joined}
 use Rattle.book.specs.Format.{entryBytes, firstBody, bodyEnd, placed, contentsBytes, bookOf}
-use Rattle.book.specs.Writer.{counted, size, writeFaults, writeRefusal, writingTold, writingCase, writing, output}
+use Rattle.book.specs.Writer.{counted, size, writeRefusal, writingTold, writingCase, writing, output}
 use Rattle.book.specs.declared.Entry.{Entry}
 use Rattle.book.specs.declared.Contents.{Contents}
 use Rattle.book.specs.declared.Writing.the-variants as answer
@@ -108,15 +106,10 @@ module _ (contents : Contents) (bodies out : List ℕ) where
     unfolding output
     refused-output = rw (← e, ne-eqb number 0 some)
 
--- a refused write: the first fault names the refusal, nothing is written, and the output is as it was
-pub write-refused : (contents : Contents) (bodies out : List ℕ)
-    → (writeRefusal contents (length bodies) (length out) ≡ 0 → ⊥) →
-    let checks = writeFaults contents (length bodies) (length out) in
-    let number = writeRefusal contents (length bodies) (length out) in
-    ((i : ℕ) × FirstAt checks i × (number ≡ numberOf checks i))
-    × (writing contents (length bodies) (length out) ≡ record { refusal = number; bytes = 0 })
-    × (output contents bodies out ≡ out)
-unfolding writeRefusal writing output
-write-refused contents bodies out some =
-    let none = ne-eqb (writeRefusal contents (length bodies) (length out)) 0 some in
-    (first-applies (writeFaults contents (length bodies) (length out)) some, rw none, rw none)
+  pub refused-writing : (writeRefusal contents (length bodies) (length out) ≡ 0 → ⊥)
+      → (writing contents (length bodies) (length out)
+      ≡ record { refusal = writeRefusal contents (length bodies) (length out); bytes = 0 })
+      × (output contents bodies out ≡ out)
+  unfolding writing output
+  refused-writing some =
+      let none = ne-eqb (writeRefusal contents (length bodies) (length out)) 0 some in (rw none, rw none)

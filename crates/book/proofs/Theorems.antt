@@ -10,13 +10,14 @@ use lib.ListN.{length, getD, take, drop}
 use denote.Ref.{now}
 use Rattle.basics.specs.Fields.{sizeOf}
 use Rattle.basics.specs.First.{FirstAt, numberOf}
+use Rattle.basics.proofs.First.{first-applies}
 use Rattle.basics.proofs.One.{OneAnswer, OneContent, OnePart, one-value, one-case}
 use Rattle.basics.proofs.Table.{every}
 use Rattle.book.specs.Format.{countIn, layout, entriesOf, firstBody, IsBook, bodyOf, joined, places, placed, bookOf}
 use Rattle.book.specs.Reader.{faults, refusal, reading}
 use Rattle.book.specs.Writer.{counted, stepsOf, size, writeFaults, writeRefusal, writing, output}
 use Rattle.book.specs.declared.Contents.{Contents}
-use Rattle.book.proofs.Books.{write-refused}
+use Rattle.book.proofs.Books.{refused-writing}
 use Rattle.book.proofs.Ordered.{order-ends, joined-rest, whole-bodies, book-exact, refused-or-book}
 use Rattle.book.proofs.Ordered.{refused-no-book}
 use Rattle.book.proofs.Trips.{read-again, written-again, book-format}
@@ -70,15 +71,20 @@ not-both = refused-no-book
 refusal-exact : (book : List ℕ) → (refusal book ≡ 0) ↔ IsBook book
 refusal-exact = book-exact
 
--- A refused write: the first check that applies gives the refusal, no bytes are written, and the output is as it was.
-write-refusal-right : (contents : Contents) (bodies out : List ℕ)
-    → (writeRefusal contents (length bodies) (length out) ≡ 0 → ⊥) →
-    let checks = writeFaults contents (length bodies) (length out) in
-    let number = writeRefusal contents (length bodies) (length out) in
-    ((i : ℕ) × FirstAt checks i × (number ≡ numberOf checks i))
-    × (writing contents (length bodies) (length out) ≡ record { refusal = number; bytes = 0 })
+-- The first check that applies gives a write's refusal; then no bytes are written and the output is as it was.
+write-first : (contents : Contents) (bodies room : ℕ) → (writeRefusal contents bodies room ≡ 0 → ⊥)
+    → (i : ℕ)
+    × FirstAt (writeFaults contents bodies room) i
+    × (writeRefusal contents bodies room ≡ numberOf (writeFaults contents bodies room) i)
+unfolding writeRefusal
+write-first contents bodies room = first-applies (writeFaults contents bodies room)
+
+write-refused : (contents : Contents) (bodies out : List ℕ)
+    → (writeRefusal contents (length bodies) (length out) ≡ 0 → ⊥)
+    → (writing contents (length bodies) (length out)
+    ≡ record { refusal = writeRefusal contents (length bodies) (length out); bytes = 0 })
     × (output contents bodies out ≡ out)
-write-refusal-right = write-refused
+write-refused = refused-writing
 
 -- The books are just those that the writer writes.
 format-exact : (book : List ℕ) → ((i : ℕ) → getD book i 0 < 256)
