@@ -28,14 +28,6 @@ length-bytes one v = refl
 length-bytes two v = refl
 length-bytes four v = refl
 
-pub length-fields : (layout : List Width) (values : List ℕ) → length values ≡ length layout
-    → length (fieldBytes layout values) ≡ sizeOf layout
-length-fields [] values e = refl
-length-fields (width ∷ layout) [] e = absurd (omega arith)
-length-fields (width ∷ layout) (v ∷ values) e =
-    length-append (bytesOf width v) (fieldBytes layout values)
-    ∙ omega (arith, length-bytes width v, length-fields layout values (suc-inj e))
-
 first-back : (width : Width) (v : ℕ) (after : List ℕ) → numberAt width (bytesOf width v ++ after) 0 ≡ v
 unfolding twoAt fourAt
 first-back one v after = refl
