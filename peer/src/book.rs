@@ -7,7 +7,7 @@
 /// The bound of refusal 20. No book is as long as that: the contents come to two
 /// bytes more than a multiple of four, and the bodies to a multiple of four, so
 /// the longest book has two bytes less.
-const MOST_BYTES: usize = 65_536;
+pub const MOST_BYTES: usize = 65_536;
 pub const MOST_ENTRIES: usize = 64;
 
 const FIRST_BYTE: u8 = 1;
@@ -15,7 +15,7 @@ const FIRST_BYTE: u8 = 1;
 const HEAD_BYTES: usize = 2;
 const ENTRY_BYTES: usize = 12;
 /// The pair received and the pair sent (paper: "The judge").
-const STEP_BYTES: usize = 4;
+pub const STEP_BYTES: usize = 4;
 
 /// A call that is turned down, under the paper's number for it. Whatever else
 /// the call would answer is then zero, so a refusal carries nothing.
@@ -175,7 +175,7 @@ pub fn body<'a>(book: &'a [u8], entry: &Entry) -> &'a [u8] {
 }
 
 /// Where the contents of so many entries end, and the first body starts.
-fn contents_bytes(count: usize) -> usize {
+pub fn contents_bytes(count: usize) -> usize {
     HEAD_BYTES + ENTRY_BYTES * count
 }
 

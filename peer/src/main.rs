@@ -11,21 +11,27 @@
 //! programs, and their agreement on it is no evidence.
 //!
 //! The programs are compared by what they print: `sequences` for the byte pair and
-//! the controller, `trials` for the capture book. Where they differ, neither has
+//! the controller, `trials` for the capture book. For the judge there is a program
+//! of its own on the other side, so `books` runs it on many books and compares what
+//! it prints with what `judge` prints here. Where they differ, neither has
 //! precedence: the paper decides which one is wrong.
 
 mod block;
 mod book;
+mod books;
 mod controller;
+mod draws;
+mod judge;
 mod pair;
 mod sequences;
 mod trials;
 
 use std::ffi::OsString;
 use std::io::{self, BufWriter, StdoutLock, Write};
+use std::path::Path;
 use std::process::ExitCode;
 
-const USAGE: &str = "usage: peer sequences | trials";
+const USAGE: &str = "usage: peer sequences | trials | judge | books [PROGRAM]";
 
 type Printer = BufWriter<StdoutLock<'static>>;
 
@@ -35,6 +41,9 @@ fn main() -> ExitCode {
     match words.as_slice() {
         [word] if word == "sequences" => finish(print(sequences::write)),
         [word] if word == "trials" => finish(print(trials::write)),
+        [word] if word == "judge" => finish(print(|out| judge::table::write(io::stdin(), out))),
+        [word] if word == "books" => compare_books(Path::new(books::USUAL_PROGRAM)),
+        [word, program] if word == "books" => compare_books(Path::new(program)),
         _ => {
             complain(USAGE);
             ExitCode::from(2)
@@ -42,7 +51,7 @@ fn main() -> ExitCode {
     }
 }
 
-fn print(write: fn(&mut Printer) -> io::Result<()>) -> io::Result<()> {
+fn print(write: impl FnOnce(&mut Printer) -> io::Result<()>) -> io::Result<()> {
     let mut out = BufWriter::new(io::stdout().lock());
     write(&mut out)?;
     out.flush()
@@ -55,6 +64,23 @@ fn finish(printed: io::Result<()>) -> ExitCode {
             complain(&format!("peer: {error}"));
             ExitCode::FAILURE
         }
+    }
+}
+
+/// Fails if anything is found, or if what is found cannot be printed.
+fn compare_books(program: &Path) -> ExitCode {
+    let finding = match books::compare(program) {
+        Ok(finding) => finding,
+        Err(error) => {
+            complain(&format!("peer: cannot run {}: {error}", program.display()));
+            return ExitCode::from(2);
+        }
+    };
+    let printed = finish(print(|out| out.write_all(&finding.text)));
+    if finding.clean {
+        printed
+    } else {
+        ExitCode::FAILURE
     }
 }
 

@@ -84,7 +84,7 @@ pub(crate) enum Request {
 }
 
 impl Request {
-    const ALL: [Self; 10] = [
+    pub(crate) const ALL: [Self; 10] = [
         Self::Lockout,
         Self::ForcedSwitch,
         Self::SignalFailHigh,

@@ -11,7 +11,7 @@ use lib.Seq.{drop-cons}
 use Rattle.pair.specs.Request.{rankIn, rankOf}
 use Rattle.request.specs.Order.{byRank, betterOf, best, OneOf}
 use Rattle.request.specs.declared.Request.{Request}
-use Rattle.request.proofs.Order.{best-append, best-one, best-above, best-single}
+use Rattle.request.proofs.Order.{best-append, best-one, best-above, best-single, best-top}
 use Rattle.request.proofs.Order.{rank-irreflexive, rank-transitive}
 use Rattle.controller.specs.Rules.{reverse, noRequest, condition, conditionsFrom, candidates, localRequest, decided}
 
@@ -79,3 +79,10 @@ module _ (mask protection : ℕ) (working : List ℕ) (command wait : Request) w
   unfolding localRequest
   local-single x wins =
       best-single (byRank rankOf) (rank-irreflexive rankOf) (rank-transitive rankOf) noRequest x wins all
+
+  pub local-top : (x : Request) → byRank rankOf x noRequest ≡ true
+      → ((y : Request) → OneOf y all → (y ≡ x) ⊎ (byRank rankOf x y ≡ true)) → OneOf x all
+      → localRequest mask protection working command wait ≡ x
+  unfolding localRequest
+  local-top x wins =
+      best-top (byRank rankOf) (rank-irreflexive rankOf) (rank-transitive rankOf) noRequest x wins all

@@ -101,7 +101,7 @@ module _ (s : Controller) (k1 k2 : ℕ) (conditions : List ℕ) (command c : ℕ
   unfolding step
   step-refused h = rw (ne-eqb (refusal s conditions command c) 0 h)
 
-  not-refused : step s k1 k2 conditions command c .refusal ≡ 0
+  pub not-refused : step s k1 k2 conditions command c .refusal ≡ 0
       → (refusal s conditions command c ≡ 0) × (step s k1 k2 conditions command c ≡ moved s k1 k2 conditions command c)
   unfolding step
   not-refused h = go (eqb (refusal s conditions command c) 0) refl
@@ -161,7 +161,7 @@ module _ (s : Controller) (k1 k2 : ℕ) (conditions : List ℕ) (command c : ℕ
       let command-fits : ltb 4 command ≡ false = le-ltb 4 command (leb-true command 4 (third .1)) in
       rw (fits, mask-fits, accepts, two .0, two .1, command-fits, last .1)
 
-fresh-acceptable : (n mask w : ℕ) → sectionsFit n ≡ true → acceptable (fresh n mask w) ≡ true
+pub fresh-acceptable : (n mask w : ℕ) → sectionsFit n ≡ true → acceptable (fresh n mask w) ≡ true
 unfolding carries
 fresh-acceptable n mask w fits =
     facts-acceptable (fresh n mask w)

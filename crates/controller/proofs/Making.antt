@@ -4,7 +4,7 @@ use mathlib.Core.Bool.{Bool, true, false}
 use Prim.Native.Nat.{ℕ}
 use native.Mathlib.Omega.{arith}
 use lib.Dec.{eqb}
-use borrow.Author.Tests.{eqb-true}
+use borrow.Author.Tests.{eqb-true, eqb-false}
 use Rattle.basics.specs.Answer.{Answers}
 use Rattle.basics.specs.First.{firstOf}
 use Rattle.basics.proofs.One.{answers}
@@ -42,3 +42,17 @@ fresh-facts n mask w s h = go (eqb (firstOf (settingsFaults n mask)) 0) refl
     go false z =
         let e : made.Refused (firstOf (settingsFaults n mask)) ≡ made.Fresh s = simp z at h in
         let none : _≡_ {A = ℕ} 0 1 = cc in absurd (omega arith)
+
+pub refused-facts : (n mask w k : ℕ) → makingCase (making n mask w) ≡ made.Refused k
+    → (k ≡ firstOf (settingsFaults n mask)) × (firstOf (settingsFaults n mask) ≡ 0 → ⊥)
+unfolding making
+refused-facts n mask w k h = go (eqb (firstOf (settingsFaults n mask)) 0) refl
+  where
+    go : (z : Bool) → eqb (firstOf (settingsFaults n mask)) 0 ≡ z
+        → (k ≡ firstOf (settingsFaults n mask)) × (firstOf (settingsFaults n mask) ≡ 0 → ⊥)
+    go true z =
+        let e : made.Fresh (fresh n mask w) ≡ made.Refused k = rw z at h in
+        let none : _≡_ {A = ℕ} 0 1 = cc in absurd (omega arith)
+    go false z =
+        let e : made.Refused (firstOf (settingsFaults n mask)) ≡ made.Refused k = simp z at h in
+        (cc, eqb-false (firstOf (settingsFaults n mask)) 0 z)

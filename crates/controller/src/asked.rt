@@ -4,7 +4,7 @@ use request::Request;
 ghost use Rattle.controller.specs.Rules.{asked, rankOfRequest};
 ghost use mathlib.Core.Path.{_≡_};
 
-pub(crate) fn asked(k1: u8) -> Request
+pub fn asked(k1: u8) -> Request
     ensures { λ r. ⌜ r ≡ asked k1 ⌝ }
 {
     Request {

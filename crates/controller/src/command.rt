@@ -15,7 +15,7 @@ fn is_command(code: u8) -> bool
     (code == LOCKOUT) | (code == FORCED_SWITCH) | (code == MANUAL_SWITCH)
 }
 
-pub(crate) fn held(last: Request) -> Request
+pub fn held(last: Request) -> Request
     ensures { λ r. ⌜ r ≡ held last ⌝ }
 {
     if is_command(last.code) {

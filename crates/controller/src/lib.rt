@@ -1,13 +1,13 @@
 // The controller: one end of a bidirectional, revertive 1:n group (01, 'Settings' and 'One step').
 mod acceptance;
 mod answer;
-mod asked;
+pub mod asked;
 mod codes;
-mod command;
+pub mod command;
 mod local;
 mod refusal;
-mod section;
-mod wait;
+pub mod section;
+pub mod wait;
 
 use crate::answer::moved;
 use crate::answer::refused;
@@ -32,9 +32,9 @@ pub struct Controller {
 
 impl Controller {
     // The idle pair, 00 08: accepted by a fresh record, and where section 0 has failed.
-    const IDLE_K1: u8 = 0x00;
+    pub const IDLE_K1: u8 = 0x00;
 
-    const IDLE_K2: u8 = 0x08;
+    pub const IDLE_K2: u8 = 0x08;
 
     pub fn fresh(n: u8, mask: u16, w: u16) -> Made
         ensures { λ r. ⌜ Answers makingTold makingCase (making n mask w) r ⌝ }

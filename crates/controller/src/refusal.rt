@@ -9,7 +9,6 @@ use crate::section::high;
 use crate::wait::is_wait;
 use pair::decode;
 use pair::sections_fit;
-ghost use Prim.Native.Nat.{_≤_};
 ghost use Rattle.basics.specs.First.{firstOf};
 ghost use Rattle.controller.specs.Refusals.{otherPriority, againstMask, waitFits, acceptable};
 ghost use Rattle.controller.specs.Refusals.{conditionsFit, channelFits, refusal};
@@ -59,7 +58,6 @@ fn other_priority(first: bool, code: u8) -> bool
 }
 
 fn against_mask(mask: u16, code: u8, c: u8) -> bool
-    requires { ⌜ c ≤ 15 ⌝ }
     ensures { λ r. ⌜ r ≡ againstMask mask code c ⌝ }
 {
     (1 <= c) & other_priority(high(mask, c), code)

@@ -5,20 +5,21 @@ use crate::codes::FAIL_HIGH;
 use crate::codes::FAIL_LOW;
 use crate::codes::NO_REQUEST;
 use request::Request;
-ghost use Prim.Native.Nat.{_≤_};
 ghost use Rattle.controller.specs.Rules.{failCode, degradeCode, condition};
 ghost use Rattle.controller.specs.Settings.{high};
 ghost use mathlib.Core.Path.{_≡_};
 
 pub(crate) fn high(mask: u16, c: u8) -> bool
-    requires { ⌜ c ≤ 15 ⌝ }
     ensures { λ r. ⌜ r ≡ high mask c ⌝ }
 {
     if c == 0 {
-        true
-    } else {
-        (mask >> (c - 1)) % 2 == 1
+        return true;
     }
+    // past the mask's 16 bits
+    if 16 < c {
+        return false;
+    }
+    (mask >> (c - 1)) % 2 == 1
 }
 
 fn fail_code(first: bool) -> u8
@@ -33,8 +34,7 @@ fn degrade_code(first: bool) -> u8
     if first { DEGRADE_HIGH } else { DEGRADE_LOW }
 }
 
-pub(crate) fn condition(mask: u16, c: u8, x: u8) -> Request
-    requires { ⌜ c ≤ 15 ⌝ }
+pub fn condition(mask: u16, c: u8, x: u8) -> Request
     ensures { λ r. ⌜ r ≡ condition mask c x ⌝ }
 {
     let first = high(mask, c);

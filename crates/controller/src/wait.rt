@@ -31,7 +31,7 @@ fn enters_wait(last: Request) -> bool
 }
 
 // What is left of the wait in this step.
-pub(crate) fn wait_of(s: Controller, last: Request, command: u8) -> u16
+pub fn wait_of(s: Controller, last: Request, command: u8) -> u16
     ensures { λ r. ⌜ r ≡ waitOf s last command ⌝ }
 {
     let entering = enters_wait(last);

@@ -1,5 +1,5 @@
 -- Laws of 'better' and of 'best'. Those of 'best' hold for every order that is irreflexive and transitive.
-use mathlib.Core.Path.{_≡_, refl, sym, _∙_}
+use mathlib.Core.Path.{_≡_, refl, sym, ap, _∙_}
 use mathlib.Core.Bool.{Bool, true, false, _&&_, _||_, and-eq-true-iff, true≢false}
 use mathlib.Core.List.{List, [], _∷_, _++_}
 use mathlib.Core.Logic.{_⊎_, inl, inr, ⊎-elim}
@@ -16,7 +16,7 @@ use Rattle.request.specs.declared.Request.{Request}
 abbrev Beats : ℕ → ℕ → ℕ → ℕ → Type 0
 Beats r c s d = (0 < r) × ((s < r) ⊎ ((r ≡ s) × (c < d)))
 
-or-true : (a b : Bool) → a || b ≡ true → (a ≡ true) ⊎ (b ≡ true)
+pub or-true : (a b : Bool) → a || b ≡ true → (a ≡ true) ⊎ (b ≡ true)
 or-true true b h = inl refl
 or-true false b h = inr h
 
@@ -31,7 +31,7 @@ beats r c s d h =
           (or-true (ltb s r) (eqb r s && ltb c d) (both .1)),
     )
 
-or-right : (a b : Bool) → b ≡ true → a || b ≡ true
+pub or-right : (a b : Bool) → b ≡ true → a || b ≡ true
 or-right true b h = refl
 or-right false b h = h
 
@@ -94,6 +94,19 @@ pub each-append : (P : Request → Type 0) (xs ys : List Request) → Each P xs 
 each-append P [] ys h k = k
 each-append P (x ∷ xs) ys h k = (h .0, each-append P xs ys (h .1) k)
 
+-- one of two lists joined is one of the first or of the second
+pub one-split : (x : Request) (xs ys : List Request) → OneOf x (xs ++ ys) → OneOf x xs ⊎ OneOf x ys
+one-split x [] ys h = inr h
+one-split x (y ∷ xs) ys (inl same) = inl (inl same)
+one-split x (y ∷ xs) ys (inr among) = ⊎-elim (λ h. inl (inr h)) inr (one-split x xs ys among)
+
+pub one-joined : (x : Request) (xs ys : List Request) → OneOf x xs ⊎ OneOf x ys → OneOf x (xs ++ ys)
+one-joined x [] ys (inl h) = absurd h
+one-joined x [] ys (inr h) = h
+one-joined x (y ∷ xs) ys (inl (inl same)) = inl same
+one-joined x (y ∷ xs) ys (inl (inr h)) = inr (one-joined x xs ys (inl h))
+one-joined x (y ∷ xs) ys (inr h) = inr (one-joined x xs ys (inr h))
+
 module _ (order : Request → Request → Bool) where
   pub best-append : (xs ys : List Request) (none : Request)
       → best order none (xs ++ ys) ≡ best order (best order none xs) ys
@@ -147,6 +160,17 @@ module _ (order : Request → Request → Bool) where
         go t e (inr (inr among)) = inr among
 
     module _ (none x : Request) (above : order x none ≡ true) where
+      -- a candidate that beats every other is the best
+      pub best-top : (xs : List Request) → ((y : Request) → OneOf y xs → (y ≡ x) ⊎ (order x y ≡ true)) → OneOf x xs
+          → best order none xs ≡ x
+      best-top xs beats among =
+          ⊎-elim
+          (λ same. absurd (true≢false (sym above ∙ ap (order x) (sym same) ∙ best-above xs none x (inr among))))
+          (λ one.
+          ⊎-elim (λ same. same) (λ wins. absurd (true≢false (sym wins ∙ best-above xs none x (inr among))))
+          (beats (best order none xs) one))
+          (best-one xs none)
+
       abbrev Alone : List Request → Type 0
       Alone xs = (y : Request) → OneOf y xs → (y ≡ x) ⊎ (order y none ≡ false)
 

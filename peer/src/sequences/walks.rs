@@ -5,26 +5,13 @@
 
 use super::{fresh, numbers, Given};
 use crate::controller::{Answer, Record};
+use crate::draws::Draws;
 use std::io::{self, Write};
 
 const STEPS: u32 = 20_000;
 
 /// A prime, so that no multiplication makes two unequal sums equal.
 const SUM_BELOW: u32 = 65_521;
-
-/// The generator with multiplier 48271 over the prime 2^31 - 1.
-struct Draws(u64);
-
-impl Draws {
-    fn below(&mut self, bound: u16) -> u16 {
-        self.0 = self.0 * 48_271 % 2_147_483_647;
-        (self.0 % u64::from(bound)) as u16
-    }
-
-    fn byte_below(&mut self, bound: u8) -> u8 {
-        self.below(u16::from(bound)) as u8
-    }
-}
 
 /// A walk between two steps.
 struct Walk {
@@ -34,7 +21,7 @@ struct Walk {
 
 impl Walk {
     fn start(n: u8) -> Self {
-        let mut draws = Draws(u64::from(n));
+        let mut draws = Draws::from_seed(u64::from(n));
         let mask = draws.below(1 << n);
         let w = draws.below(4);
         Self {
@@ -163,17 +150,6 @@ mod tests {
                 walk.step(|given, answer| see(before, given, answer));
             }
         }
-    }
-
-    /// The C++ standard gives this number as a check of its `minstd_rand`, the
-    /// same generator, started at 1.
-    #[test]
-    fn the_ten_thousandth_draw_is_the_known_one() {
-        let mut draws = Draws(1);
-        for _ in 0..10_000 {
-            draws.below(1);
-        }
-        assert_eq!(draws.0, 399_268_537);
     }
 
     /// Every record a step answers is good for the next: a step is refused only

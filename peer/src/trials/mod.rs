@@ -26,7 +26,7 @@ pub fn write<W: Write>(out: &mut W) -> io::Result<()> {
 }
 
 /// The book at the end of the paper's "Sequences on both sides".
-const PAPER_BOOK: [u8; 46] = [
+pub(crate) const PAPER_BOOK: [u8; 46] = [
     0x01, 0x02, // 1 and the count
     0x02, 0x00, 0x00, 0x00, 0x00, 0x03, 0x00, 0x00, 0x00, 0x1A, 0x00, 0x03, // entry 0
     0x02, 0x00, 0x00, 0x00, 0x00, 0x03, 0x00, 0x00, 0x00, 0x26, 0x00, 0x02, // entry 1
@@ -104,7 +104,9 @@ fn refusal_number<T>(answer: &Result<T, Refusal>) -> u8 {
 
 /// Contents to be written, of entries with the given n, mask, W and steps. All
 /// that the writer must not look at holds numbers it would be caught with.
-fn contents_to_write(entries: impl IntoIterator<Item = (u8, u16, u16, u16)>) -> Contents {
+pub(crate) fn contents_to_write(
+    entries: impl IntoIterator<Item = (u8, u16, u16, u16)>,
+) -> Contents {
     const UNSEEN: Entry = Entry {
         n: 9,
         spare: 9,

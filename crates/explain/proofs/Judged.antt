@@ -1,0 +1,52 @@
+-- The judge's refusals, and its verdict where there is none.
+use mathlib.Core.Path.{_≡_, refl, sym, ap, subst, _∙_}
+use mathlib.Core.Bool.{true, false, not}
+use mathlib.Core.List.{List}
+use Prim.Native.Nat.{ℕ, _%_, _≤_}
+use lib.Dec.{ltb, eqb}
+use lib.ListN.{length}
+use borrow.Author.Tests.{eqb-true, ltb-false, ne-eqb, not-false}
+use Rattle.basics.specs.Choice.{if_then_else_}
+use Rattle.basics.specs.First.{firstOf}
+use Rattle.basics.proofs.First.{none-exact, first-behind, first-before}
+use Rattle.pair.specs.Coder.{sectionsFit}
+use Rattle.controller.specs.Settings.{maskFits, fresh, settingsFaults}
+use Rattle.explain.specs.Capture.{rowsOf}
+use Rattle.explain.specs.Verdict.{Judging, refusedBy, sizeFaults, faults, most, Right}
+use Rattle.explain.specs.Trace.{scanned}
+use Rattle.explain.proofs.Exact.{scan-right}
+
+-- what refusals 8 and 9 leave of a capture's size
+pub size-fits : (size : ℕ) → firstOf (sizeFaults size) ≡ 0 → (size % 4 ≡ 0) × (size ≤ most)
+size-fits size h =
+    let none = none-exact (sizeFaults size) refl .0 h in
+    (eqb-true (size % 4) 0 (not-false (eqb (size % 4) 0) (none 0)), ltb-false most size (none 1))
+
+module _ (n mask w : ℕ) (bytes : List ℕ) where
+  abbrev refusal : ℕ
+  refusal = firstOf (faults n mask (length bytes))
+
+  refused-right : (refusal ≡ 0 → ⊥) → Right n mask w bytes (refusedBy refusal)
+  unfolding Right
+  refused-right some = rw (ne-eqb refusal 0 some) refl
+
+  -- refused for its settings
+  pub settings-right : (k : ℕ) → k ≡ firstOf (settingsFaults n mask) → (firstOf (settingsFaults n mask) ≡ 0 → ⊥)
+      → Right n mask w bytes (refusedBy k)
+  settings-right k e some =
+      let whole = first-before (settingsFaults n mask) (sizeFaults (length bytes)) some in
+      subst (λ (m : ℕ). Right n mask w bytes (refusedBy m)) (whole ∙ sym e) (refused-right (λ z. some (sym whole ∙ z)))
+
+  module _ (fits : sectionsFit n ≡ true) (mask-fits : maskFits n mask ≡ true) where
+    behind : refusal ≡ firstOf (sizeFaults (length bytes))
+    behind = first-behind (settingsFaults n mask) (sizeFaults (length bytes)) refl (rw (fits, mask-fits))
+
+    -- refused for its size
+    pub size-right : (k : ℕ) → k ≡ firstOf (sizeFaults (length bytes)) → (k ≡ 0 → ⊥) → Right n mask w bytes (refusedBy k)
+    size-right k e some =
+        let whole : refusal ≡ k = behind ∙ sym e in
+        subst (λ (m : ℕ). Right n mask w bytes (refusedBy m)) whole (refused-right (λ z. some (sym whole ∙ z)))
+
+    pub scanned-right : firstOf (sizeFaults (length bytes)) ≡ 0 → Right n mask w bytes (scanned (fresh n mask w) bytes)
+    unfolding Right
+    scanned-right none = rw (behind, none) (scan-right n mask w fits mask-fits (rowsOf bytes))

@@ -1,0 +1,190 @@
+-- The two flags hold the set of records that some causes can have reached, no more and no less.
+use mathlib.Core.Path.{_≡_, refl, sym, ap, subst, _∙_}
+use mathlib.Core.Bool.{Bool, true, false, _&&_, _||_, and-eq-true-iff, false≢true}
+use mathlib.Core.Logic.{_↔_, _⊎_, inl, inr, ⊎-elim}
+use Prim.Native.Nat.{ℕ}
+use lib.Dec.{eqb}
+use Rattle.basics.specs.Choice.{if_then_else_}
+use Rattle.pair.specs.Marks.{mark}
+use Rattle.request.specs.declared.Request.{Request}
+use Rattle.request.proofs.Order.{or-true, or-right}
+use Rattle.controller.specs.Settings.{idleK1, idleK2}
+use Rattle.controller.specs.Rules.{asked}
+use Rattle.controller.specs.Step.{waitOf}
+use Rattle.controller.specs.declared.Controller.{Controller}
+use Rattle.explain.specs.Capture.{Row}
+use Rattle.explain.specs.Explained.{Cause, stepped, Sends}
+use Rattle.explain.specs.Trace.{idled, live, lost, opens, localIn, hiddenIn, recordAfter, traced, next}
+use Rattle.explain.specs.declared.Records.{Records}
+use Rattle.explain.proofs.Reached.{Able, Reached, far-standing, sends-reached, reached-sends}
+
+-- the records that the flags leave open
+abbrev pub In : Records → Controller → Type 0
+In d s = ((d .heard ≡ true) × (s ≡ d .controller)) ⊎ ((d .idle ≡ true) × (s ≡ idled (d .controller)))
+
+pub live-in : (d : Records) → (live d ≡ true) ↔ ((s : Controller) × In d s)
+live-in d = (forward, backward)
+  where
+    forward : live d ≡ true → (s : Controller) × In d s
+    forward h =
+        ⊎-elim (λ e. (d .controller, inl (e, refl))) (λ e. (idled (d .controller), inr (e, refl)))
+        (or-true (d .heard) (d .idle) h)
+
+    backward : (s : Controller) × In d s → live d ≡ true
+    backward (s, inl h) = rw (h .0)
+    backward (s, inr h) = rw (h .0) (or-right (d .heard) true refl)
+
+module _ (d : Records) (r : Row) where
+  abbrev base : Controller
+  base = d .controller
+
+  abbrev x : Request
+  x = asked (r .sentK1)
+
+  abbrev now : ℕ
+  now = waitOf base (asked (base .sent)) 0
+
+  abbrev hidden : Bool
+  hidden = hiddenIn base x (r .sentK2)
+
+  abbrev opened : ℕ → Bool
+  opened k1 = opens k1 x (r .sentK2) (localIn base x)
+
+  abbrev after : ℕ → ℕ → Controller
+  after k1 k2 = recordAfter base now k1 k2 (r .sentK1)
+
+  -- the records behind the row, where the received pair is usable, and where it is not
+  abbrev taken : Records
+  taken = record { controller = after (r .k1) (r .k2); heard = opened (r .k1); idle = hidden }
+
+  abbrev kept : Records
+  kept =
+      record {
+        controller = after (base .k1) (base .k2);
+        heard = d .heard && opened (base .k1);
+        idle = d .idle && opened idleK1 || hidden;
+      }
+
+  abbrev sendable : Bool
+  sendable = eqb (mark (base .n) (r .sentK1) (r .sentK2)) 0
+
+  abbrev usable : Bool
+  usable = eqb (mark (base .n) (r .k1) (r .k2)) 0
+
+  next-lost : sendable ≡ false → next d r ≡ lost base
+  unfolding next
+  next-lost e = rw e
+
+  next-taken : sendable ≡ true → usable ≡ true → next d r ≡ taken
+  unfolding next traced
+  next-taken e f = rw (e, f)
+
+  next-kept : sendable ≡ true → usable ≡ false → next d r ≡ kept
+  unfolding next traced
+  next-kept e f = rw (e, f)
+
+  module _ (good : (s : Controller) → In d s → Able s) where
+    abbrev From : Controller → Type 0
+    From u = (s : Controller) × (c : Cause) × In d s × Sends (stepped s c r) r × (u ≡ stepped s c r .controller)
+
+    bring : (s : Controller) (i : In d s) (u : Controller) → Reached s r (good s i) u → From u
+    bring s i u h = let some = reached-sends s r (good s i) u h in (s, some .0, i, some .1, some .2)
+
+    -- by a failed section 0, from any record that is left
+    by-hidden : (s : Controller) → In d s → sendable ≡ true → hidden ≡ true → (u : Controller)
+        → u ≡ after idleK1 idleK2 → From u
+    by-hidden s (inl (e, is)) fits h u k = bring s (inl (e, is)) u (rw is (fits, inl (h, k)))
+    by-hidden s (inr (e, is)) fits h u k = bring s (inr (e, is)) u (rw is (fits, inl (h, k)))
+
+    abbrev standing : Bool → ℕ → ℕ → ℕ
+    standing t received before = if t then received else before
+
+    -- by the pair that stands, from the record with the last usable pair, or from the one with 00 08
+    from-heard : (e : d .heard ≡ true) (t : Bool) → usable ≡ t → sendable ≡ true → (u : Controller) →
+        let k1 = standing t (r .k1) (base .k1) in
+        opened k1 ≡ true → u ≡ after k1 (standing t (r .k2) (base .k2)) → From u
+    from-heard e t f fits u h k =
+        let i : In d base = inl (e, refl) in
+        let stood = far-standing base r (good base i) t f in
+        bring base i u (fits, inr (rw (stood .0, stood .1) (h, k)))
+
+    from-idle : (e : d .idle ≡ true) (t : Bool) → usable ≡ t → sendable ≡ true → (u : Controller) →
+        let k1 = standing t (r .k1) idleK1 in
+        opened k1 ≡ true → u ≡ after k1 (standing t (r .k2) idleK2) → From u
+    from-idle e t f fits u h k =
+        let i : In d (idled base) = inr (e, refl) in
+        let stood = far-standing (idled base) r (good (idled base) i) t f in
+        bring (idled base) i u (fits, inr (rw (stood .0, stood .1) (h, k)))
+
+    into-taken : live d ≡ true → sendable ≡ true → usable ≡ true → (u : Controller) → In taken u → From u
+    into-taken alive fits f u (inl (h, k)) =
+        ⊎-elim (λ e. from-heard e true f fits u h k) (λ e. from-idle e true f fits u h k)
+        (or-true (d .heard) (d .idle) alive)
+    into-taken alive fits f u (inr (h, k)) =
+        let some = live-in d .0 alive in by-hidden (some .0) (some .1) fits h u k
+
+    into-kept : live d ≡ true → sendable ≡ true → usable ≡ false → (u : Controller) → In kept u → From u
+    into-kept alive fits f u (inl (h, k)) =
+        let both = and-eq-true-iff (d .heard) (opened (base .k1)) .0 h in from-heard (both .0) false f fits u (both .1) k
+    into-kept alive fits f u (inr (h, k)) =
+        ⊎-elim
+        (λ e.
+        let both = and-eq-true-iff (d .idle) (opened idleK1) .0 e in from-idle (both .0) false f fits u (both .1) k)
+        (λ e. let some = live-in d .0 alive in by-hidden (some .0) (some .1) fits e u k)
+        (or-true (d .idle && opened idleK1) hidden h)
+
+    -- what a row that is sent leaves, by whether the received pair is usable
+    abbrev behind : Bool → Records
+    behind t = if t then taken else kept
+
+    hidden-in : (t : Bool) (u : Controller) → hidden ≡ true → u ≡ after idleK1 idleK2 → In (behind t) u
+    hidden-in true u h k = inr (h, k)
+    hidden-in false u h k = inr (rw h (or-right (d .idle && opened idleK1) true refl), k)
+
+    heard-in : (t : Bool) (u : Controller) → d .heard ≡ true →
+        let k1 = standing t (r .k1) (base .k1) in
+        opened k1 ≡ true → u ≡ after k1 (standing t (r .k2) (base .k2)) → In (behind t) u
+    heard-in true u e h k = inl (h, k)
+    heard-in false u e h k = inl (rw (e, h), k)
+
+    idle-in : (t : Bool) (u : Controller) → d .idle ≡ true →
+        let k1 = standing t (r .k1) idleK1 in
+        opened k1 ≡ true → u ≡ after k1 (standing t (r .k2) idleK2) → In (behind t) u
+    idle-in true u e h k = inl (h, k)
+    idle-in false u e h k = inr (rw (e, h), k)
+
+    out-of : (t : Bool) → usable ≡ t → (u : Controller) (from : From u) → (sendable ≡ true) × In (behind t) u
+    out-of t f u (s, c, inl (e, is), sends, k) =
+        let i : In d s = inl (e, is) in
+        let reached = rw (← k) at (sends-reached s r (good s i) c sends) in
+        let stood = far-standing s r (good s i) t (rw is f) in (
+          rw is at (reached .0),
+          ⊎-elim (λ h. hidden-in t u (rw is at (h .0)) (rw is at (h .1)))
+              (λ h. heard-in t u e (rw (stood .0, is) at (h .0)) (rw (stood .0, stood .1, is) at (h .1))) (reached .1),
+        )
+    out-of t f u (s, c, inr (e, is), sends, k) =
+        let i : In d s = inr (e, is) in
+        let reached = rw (← k) at (sends-reached s r (good s i) c sends) in
+        let stood = far-standing s r (good s i) t (rw is f) in (
+          rw is at (reached .0),
+          ⊎-elim (λ h. hidden-in t u (rw is at (h .0)) (rw is at (h .1)))
+              (λ h. idle-in t u e (rw (stood .0, is) at (h .0)) (rw (stood .0, stood .1, is) at (h .1))) (reached .1),
+        )
+
+    -- exactly the records that some cause leaves
+    pub next-in : (u : Controller) → live d ≡ true → In (next d r) u ↔ From u
+    next-in u alive = (forward sendable usable refl refl, λ from. backward usable refl from)
+      where
+        forward : (a b : Bool) → sendable ≡ a → usable ≡ b → In (next d r) u → From u
+        forward true true e f i = into-taken alive e f u (subst (λ (m : Records). In m u) (next-taken e f) i)
+        forward true false e f i = into-kept alive e f u (subst (λ (m : Records). In m u) (next-kept e f) i)
+        forward false b e f i =
+            absurd
+            (⊎-elim (λ h. false≢true (h .0)) (λ h. false≢true (h .0))
+            (subst (λ (m : Records). In m u) (next-lost e) i))
+
+        backward : (b : Bool) → usable ≡ b → From u → In (next d r) u
+        backward true f from =
+            let (fits, i) = out-of true f u from in subst (λ (m : Records). In m u) (sym (next-taken fits f)) i
+        backward false f from =
+            let (fits, i) = out-of false f u from in subst (λ (m : Records). In m u) (sym (next-kept fits f)) i

@@ -1,0 +1,78 @@
+-- Ranks and channels of requests by their codes, as the table has them.
+use mathlib.Core.Path.{_≡_, refl, sym, ap, _∙_}
+use mathlib.Core.Bool.{Bool, true, false, _&&_, _||_, and-eq-true-iff, false≢true}
+use Prim.Native.Nat.{ℕ, _≤_, _<_}
+use native.Mathlib.Omega.{arith}
+use lib.Dec.{ltb, leb, eqb, lit<, lit≤}
+use borrow.Author.Tests.{ltb-true, leb-true, eqb-true, eqb-false, lt-ltb, ne-eqb}
+use Rattle.pair.specs.Request.{requests, carries, channel-0, a-section, rankIn, rankOf}
+use Rattle.pair.proofs.Rows.{heldIn, carries-0, carries-section}
+use Rattle.request.specs.Order.{byRank}
+use Rattle.request.specs.declared.Request.{Request}
+use Rattle.controller.specs.Settings.{high}
+use Rattle.controller.specs.Rules.{rankOfRequest, noRequest, failCode, degradeCode}
+
+-- the higher rank wins
+pub above : (x y : Request) → rankOfRequest y < rankOfRequest x → byRank rankOf x y ≡ true
+above x y h =
+    let some : 0 < rankOfRequest x = omega arith in
+    rw (lt-ltb 0 (rankOfRequest x) some, lt-ltb (rankOfRequest y) (rankOfRequest x) h)
+
+pub none-rank : rankOfRequest noRequest ≡ 0
+unfolding rankOf rankIn
+none-rank = refl
+
+pub wins : (x : Request) → 0 < rankOfRequest x → byRank rankOf x noRequest ≡ true
+wins x h = above x noRequest (rw none-rank h)
+
+-- the rank on a section
+pub section-rank : (code c : ℕ) → 1 ≤ c → rankOf code c ≡ rankIn requests a-section code
+unfolding rankOf
+section-rank code c h = rw (ne-eqb c 0 (omega arith))
+
+-- a code without channel 0 comes with a section, and one without sections with channel 0
+pub on-section : (n code c : ℕ) → heldIn requests channel-0 code ≡ false → carries requests n code c ≡ true → 1 ≤ c
+on-section n code c none h = go (eqb c 0) refl
+  where
+    go : (t : Bool) → eqb c 0 ≡ t → 1 ≤ c
+    go true e =
+        let z : c ≡ 0 = eqb-true c 0 e in
+        absurd (false≢true (sym none ∙ sym (carries-0 requests n code) ∙ ap (carries requests n code) (sym z) ∙ h))
+    go false e = let some = eqb-false c 0 e in omega arith
+
+pub on-protection : (n code c : ℕ) → heldIn requests a-section code ≡ false → carries requests n code c ≡ true → c ≡ 0
+on-protection n code c none h = go (eqb c 0) refl
+  where
+    go : (t : Bool) → eqb c 0 ≡ t → c ≡ 0
+    go true e = eqb-true c 0 e
+    go false e =
+        let held = sym (carries-section requests n code c (eqb-false c 0 e)) ∙ h in
+        absurd (false≢true (sym none ∙ and-eq-true-iff (heldIn requests a-section code) (leb c n) .0 held .0))
+
+-- on which channel a request stands, its rank is one of two
+pub rank-cases : (P : ℕ → Type 0) (code c : ℕ) → P (rankIn requests channel-0 code) → P (rankIn requests a-section code)
+    → P (rankOf code c)
+unfolding rankOf
+rank-cases P code c zero some = go (eqb c 0) refl
+  where
+    go : (t : Bool) → eqb c 0 ≡ t → P (rankOf code c)
+    go true e = rw e zero
+    go false e = rw e some
+
+-- what is asked for by a failed section, and by a degraded one, has a rank
+pub fail-rank : (isHigh : Bool) (c : ℕ) → 1 ≤ c → (0 < rankOf (failCode isHigh) c) × (rankOf (failCode isHigh) c < 9)
+unfolding rankIn
+fail-rank true c h = rw (section-rank 0b1101 c h) (lit< tt, lit< tt)
+fail-rank false c h = rw (section-rank 0b1100 c h) (lit< tt, lit< tt)
+
+pub degrade-rank : (mask c : ℕ) → 0 < rankOf (degradeCode (high mask c)) c
+unfolding rankOf rankIn
+degrade-rank mask c = go (eqb c 0) refl
+  where
+    on-some : (isHigh : Bool) → 1 ≤ c → 0 < rankOf (degradeCode isHigh) c
+    on-some true h = rw (section-rank 0b1011 c h) (lit< tt)
+    on-some false h = rw (section-rank 0b1010 c h) (lit< tt)
+
+    go : (t : Bool) → eqb c 0 ≡ t → 0 < rankOf (degradeCode (high mask c)) c
+    go true e = let z : c ≡ 0 = eqb-true c 0 e in rw z (lit< tt)
+    go false e = let some = eqb-false c 0 e in on-some (high mask c) (omega arith)

@@ -1,0 +1,364 @@
+-- From requests to bytes: the records that a controller can have after a row, by the closed forms over the row's bytes.
+use mathlib.Core.Path.{_≡_, refl, sym, ap, subst, _∙_}
+use mathlib.Core.Bool.{Bool, true, false, not, _&&_, _||_, and-eq-true-iff, false≢true}
+use mathlib.Core.List.{List}
+use mathlib.Core.Logic.{_↔_, _⊎_, inl, inr, ⊎-elim}
+use Prim.Native.Nat.{ℕ, _+_, _*_, _/_, _%_, _≤_, _<_}
+use native.Mathlib.Omega.{arith}
+use lib.Dec.{ltb, leb, eqb}
+use lib.ListN.{length}
+use borrow.Author.Tests.{eqb-true, eqb-false, eq-eqb, ne-eqb, le-leb, not-true, not-false}
+use Rattle.basics.specs.Choice.{if_then_else_}
+use Rattle.pair.specs.Request.{requests, carries}
+use Rattle.pair.specs.Marks.{codeOf, channelOf, bridgedOf, bit5, lineBits, mark}
+use Rattle.pair.specs.Coder.{sectionsFit, lineOf}
+use Rattle.pair.proofs.Coding.{UsablePair, unmarked}
+use Rattle.request.specs.Bridge.{bridge}
+use Rattle.request.specs.declared.Request.{Request}
+use Rattle.request.proofs.Channels.{bridge-within}
+use Rattle.controller.specs.Settings.{maskFits, idleK1, idleK2}
+use Rattle.controller.specs.Rules.{noRequest, asked, accepted, accepting, held, isClear, isWait, decided, leftAfter, keepsBridge}
+use Rattle.controller.specs.Rules.{k1Of, k2Of}
+use Rattle.controller.specs.Refusals.{acceptable, conditionsFit, channelFits, refusal}
+use Rattle.controller.specs.Step.{protection, waitOf, answering, moved, step}
+use Rattle.controller.specs.declared.Controller.{Controller}
+use Rattle.controller.specs.declared.Outcome.{Outcome}
+use Rattle.controller.proofs.Inputs.{WellFormed, well-formed}
+use Rattle.controller.proofs.Sendable.{Sendable, sendable-room}
+use Rattle.controller.proofs.Sending.{far-usable, sent-sendable}
+use Rattle.controller.proofs.Keeping.{k1-back, not-refused, step-keeps, step-taken}
+use Rattle.explain.specs.Capture.{Row}
+use Rattle.explain.specs.Explained.{Cause, stepped, Sends}
+use Rattle.explain.specs.Cause.{arises, unseen, answers}
+use Rattle.explain.specs.Trace.{secondFits, opens, localIn, hiddenIn, recordAfter}
+use Rattle.explain.proofs.Local.{Fits, nowOf, nearOf}
+use Rattle.explain.proofs.OneStep.{Caused, Open, Hidden, one-step, one-hidden-step}
+
+-- what a run keeps of a record
+pub record Able (s : Controller) : Type 0 where
+  pub fits : sectionsFit (s .n) ≡ true
+  pub mask-fits : maskFits (s .n) (s .mask) ≡ true
+  pub accepts : acceptable s ≡ true
+
+pub able-next : (s : Controller) (cause : Cause) (r : Row) → Able s → Sends (stepped s cause r) r
+    → Able (stepped s cause r .controller)
+able-next s cause r a sends =
+    let k = step-keeps s (r .k1) (r .k2) (cause .conditions) (cause .command) (cause .channel) (sends .taken) .0 in
+    record {
+      fits = rw (k .sections) (a .fits);
+      mask-fits = rw (k .sections, k .priorities) (a .mask-fits);
+      accepts = k .accepts;
+    }
+
+-- the line bits and the bridge of a K2 that is sent
+second-sent : (k2 b : ℕ) → k2Of b ≡ k2 → secondFits k2 b ≡ true
+second-sent k2 b e =
+    let high : bridgedOf k2 ≡ b = omega arith in
+    let low : lineBits k2 ≡ 0 = omega arith in
+    let plain : eqb (lineBits k2) 0b110 ≡ false = rw low in
+    rw (eq-eqb (bridgedOf k2) b high, plain)
+
+second-back : (n k1 k2 b : ℕ) → UsablePair n k1 k2 → secondFits k2 b ≡ true → k2Of b ≡ k2
+second-back n k1 k2 b u h =
+    let both = and-eq-true-iff (eqb (bridgedOf k2) b) (not (eqb (lineBits k2) 0b110)) .0 h in
+    let high : bridgedOf k2 ≡ b = eqb-true (bridgedOf k2) b (both .0) in
+    let plain : eqb (lineBits k2) 0b110 ≡ false = not-true (eqb (lineBits k2) 0b110) (both .1) in
+    let low : 0 ≡ lineBits k2 = rw plain at (u .line) in
+    let one = u .one in
+    omega arith
+
+k1-whole : (k1 : ℕ) → k1Of (asked k1) ≡ k1
+k1-whole k1 = omega arith
+
+module _ (s : Controller) (r : Row) (able : Able s) where
+  abbrev last : Request
+  last = asked (s .sent)
+
+  abbrev x : Request
+  x = asked (r .sentK1)
+
+  -- the accepted pair, and what it asks for
+  abbrev farK1 : Bool → ℕ
+  farK1 failed = accepting s failed (r .k1) (r .k2) .k1
+
+  abbrev farK2 : Bool → ℕ
+  farK2 failed = accepting s failed (r .k1) (r .k2) .k2
+
+  abbrev far : Bool → Request
+  far failed = accepting s failed (r .k1) (r .k2) .request
+
+  module _ (cause : Cause) where
+    abbrev near : Request
+    near = nearOf (s .mask) (s .w) (s .left) last (cause .conditions) (cause .command) (cause .channel)
+
+    abbrev now : ℕ
+    now = waitOf s last (cause .command)
+
+    -- what a step that is not refused answers
+    record Answered (failed : Bool) (o : Outcome) : Type 0 where
+      first : o .k1 ≡ k1Of (decided (far failed) near)
+      second :
+          o .k2
+          ≡ k2Of (bridge (far failed .channel) (decided (far failed) near .channel) (keepsBridge (decided (far failed) near)))
+      after :
+          o .controller
+          ≡ record {
+            n = s .n;
+            mask = s .mask;
+            w = s .w;
+            k1 = farK1 failed;
+            k2 = farK2 failed;
+            sent = k1Of (decided (far failed) near);
+            left = leftAfter (decided (far failed) near) now;
+          }
+
+    moved-is : Answered (eqb (protection (cause .conditions)) 2)
+        (moved s (r .k1) (r .k2) (cause .conditions) (cause .command) (cause .channel))
+    unfolding moved
+    moved-is = record { first = refl; second = refl; after = refl }
+
+    step-is : (failed : Bool) → eqb (protection (cause .conditions)) 2 ≡ failed → stepped s cause r .refusal ≡ 0
+        → Answered failed (stepped s cause r)
+    step-is failed e h =
+        let move = not-refused s (r .k1) (r .k2) (cause .conditions) (cause .command) (cause .channel) h .1 in
+        subst (λ (t : Bool). Answered t (stepped s cause r)) e (subst (Answered (eqb (protection (cause .conditions)) 2)) (sym move) moved-is)
+
+  -- the wait of a step without clear
+  abbrev now0 : ℕ
+  now0 = waitOf s last 0
+
+  -- the records after the row: with 00 08 accepted under a failed section 0, or with the pair that stands
+  abbrev pub Reached : Controller → Type 0
+  Reached u =
+      (eqb (mark (s .n) (r .sentK1) (r .sentK2)) 0 ≡ true)
+      × (((hiddenIn s x (r .sentK2) ≡ true) × (u ≡ recordAfter s now0 idleK1 idleK2 (r .sentK1)))
+      ⊎ ((opens (farK1 false) x (r .sentK2) (localIn s x) ≡ true)
+      × (u ≡ recordAfter s now0 (farK1 false) (farK2 false) (r .sentK1))))
+
+  abbrev standing : Bool → ℕ → ℕ → ℕ
+  standing t received kept = if t then received else kept
+
+  -- the pair that stands is the received one if it is usable, and else the one before
+  pub far-standing : (t : Bool) → eqb (mark (s .n) (r .k1) (r .k2)) 0 ≡ t
+      → (farK1 false ≡ standing t (r .k1) (s .k1)) × (farK2 false ≡ standing t (r .k2) (s .k2))
+  unfolding accepting
+  far-standing t e =
+      subst (λ (b : Bool). (farK1 false ≡ standing b (r .k1) (s .k1)) × (farK2 false ≡ standing b (r .k2) (s .k2))) e
+      (go (eqb (mark (s .n) (r .k1) (r .k2)) 0))
+    where
+      go : (t : Bool) →
+          let pair = if t then accepted (r .k1) (r .k2) 0 else accepted (s .k1) (s .k2) (mark (s .n) (r .k1) (r .k2)) in
+          (pair .k1 ≡ standing t (r .k1) (s .k1)) × (pair .k2 ≡ standing t (r .k2) (s .k2))
+      go true = (refl, refl)
+      go false = (refl, refl)
+
+  far-asked : (failed : Bool) → far failed ≡ asked (farK1 failed)
+  unfolding accepting
+  far-asked true = refl
+  far-asked false = go (eqb (mark (s .n) (r .k1) (r .k2)) 0)
+    where
+      go : (t : Bool) →
+          let pair = if t then accepted (r .k1) (r .k2) 0 else accepted (s .k1) (s .k2) (mark (s .n) (r .k1) (r .k2)) in
+          pair .request ≡ asked (pair .k1)
+      go true = refl
+      go false = refl
+
+  module _ (cause : Cause) (sends : Sends (stepped s cause r) r) where
+    abbrev failed : Bool
+    failed = eqb (protection (cause .conditions)) 2
+
+    abbrev sent : Request
+    sent = decided (far failed) (near cause)
+
+    well : WellFormed s (cause .conditions) (cause .command) (cause .channel)
+    well =
+        well-formed s (cause .conditions) (cause .command) (cause .channel)
+        (not-refused s (r .k1) (r .k2) (cause .conditions) (cause .command) (cause .channel) (sends .taken) .0)
+
+    answered : Answered cause failed (stepped s cause r)
+    answered = step-is cause failed refl (sends .taken)
+
+    sendable : Sendable (s .n) (s .mask) (now cause) sent
+    sendable = sent-sendable s (cause .conditions) (cause .command) (cause .channel) well failed (r .k1) (r .k2)
+
+    first-is : k1Of sent ≡ r .sentK1
+    first-is = sym (answered .first) ∙ sends .first
+
+    sent-is : sent ≡ x
+    sent-is =
+        let room = sendable-room (s .n) (s .mask) (now cause) sent (able .fits) sendable in
+        let back = k1-back sent (room .1) in
+        let code : sent .code ≡ codeOf (r .sentK1) = sym (back .0) ∙ ap codeOf first-is in
+        let channel : sent .channel ≡ channelOf (r .sentK1) = sym (back .1) ∙ ap channelOf first-is in
+        λ i. record { code = code i; channel = channel i }
+
+    left-is : leftAfter sent (now cause) ≡ leftAfter x now0
+    left-is = go (isWait (sent .code)) refl
+      where
+        runs : 0 < now cause → now cause ≡ now0
+        runs some = at (isClear (cause .command)) refl
+          where
+            at : (t : Bool) → isClear (cause .command) ≡ t → now cause ≡ now0
+            at true e = let none : 0 < 0 = rw e at some in absurd (omega arith)
+            at false e = rw e
+
+        go : (t : Bool) → isWait (sent .code) ≡ t → leftAfter sent (now cause) ≡ leftAfter x now0
+        go true e = ap (leftAfter sent) (runs (sendable .waits e)) ∙ ap (λ (y : Request). leftAfter y now0) sent-is
+        go false e = rw e (subst (λ (y : Request). 0 ≡ leftAfter y now0) sent-is (rw e))
+
+    usable : mark (s .n) (r .sentK1) (r .sentK2) ≡ 0
+    usable =
+        let k =
+        step-keeps s (r .k1) (r .k2) (cause .conditions) (cause .command) (cause .channel) (sends .taken) .1 .usable in
+        rw (sends .first, sends .second) at k
+
+    carried : carries requests (s .n) (x .code) (x .channel) ≡ true
+    carried = unmarked (s .n) (r .sentK1) (r .sentK2) (able .fits) usable .carried
+
+    caused : (t : Bool) → failed ≡ t
+        → Caused (s .n) (s .mask) (s .w) (s .left) last t (far t) (held last) (held x) x
+    caused t e =
+        subst (λ (b : Bool). Caused (s .n) (s .mask) (s .w) (s .left) last b (far b) (held last) (held x) x) e
+        record {
+          conditions = cause .conditions;
+          command = cause .command;
+          channel = cause .channel;
+          fits =
+              record {
+                number = well .number;
+                conditions-fit = well .conditions-fit;
+                command-fits = well .command-fits;
+                channel-fits = well .channel-fits;
+              };
+          protects = refl;
+          before = refl;
+          sends = sent-is;
+          afterwards = refl;
+        }
+
+    second-is : (t : Bool) → failed ≡ t
+        → secondFits (r .sentK2) (bridge (far t .channel) (x .channel) (keepsBridge x)) ≡ true
+    second-is t e =
+        let k2 = sym (answered .second) ∙ sends .second in
+        let here =
+        second-sent (r .sentK2) (bridge (far failed .channel) (sent .channel) (keepsBridge sent)) k2 in
+        subst (λ (b : Bool). secondFits (r .sentK2) (bridge (far b .channel) (x .channel) (keepsBridge x)) ≡ true) e
+        (subst
+        (λ (y : Request). secondFits (r .sentK2) (bridge (far failed .channel) (y .channel) (keepsBridge y)) ≡ true)
+        sent-is here)
+
+    record-is : (t : Bool) → failed ≡ t
+        → stepped s cause r .controller ≡ recordAfter s now0 (farK1 t) (farK2 t) (r .sentK1)
+    record-is t e =
+        subst (λ (b : Bool). stepped s cause r .controller ≡ recordAfter s now0 (farK1 b) (farK2 b) (r .sentK1)) e
+        (answered .after
+        ∙ (λ i.
+        record {
+          n = s .n;
+          mask = s .mask;
+          w = s .w;
+          k1 = farK1 failed;
+          k2 = farK2 failed;
+          sent = first-is i;
+          left = left-is i;
+        }))
+
+  bridge-none : (c : ℕ) (kept : Bool) → bridge 0 c kept ≡ 0
+  bridge-none c kept = let within = bridge-within 0 c kept in omega arith
+
+  abbrev local : Bool
+  local = localIn s x
+
+  abbrev OpenBy : Request → Type 0
+  OpenBy y = answers y x local && secondFits (r .sentK2) (bridge (y .channel) (x .channel) (keepsBridge x)) ≡ true
+
+  -- a row that is sent leaves one of these records
+  pub sends-reached : (cause : Cause) → Sends (stepped s cause r) r → Reached (stepped s cause r .controller)
+  unfolding accepting
+  sends-reached cause sends =
+      (eq-eqb (mark (s .n) (r .sentK1) (r .sentK2)) 0 (usable cause sends), go (failed cause sends) refl)
+    where
+      carry : carries requests (s .n) (x .code) (x .channel) ≡ true
+      carry = carried cause sends
+
+      go : (t : Bool) → failed cause sends ≡ t →
+          let u = stepped s cause r .controller in
+          ((hiddenIn s x (r .sentK2) ≡ true) × (u ≡ recordAfter s now0 idleK1 idleK2 (r .sentK1)))
+          ⊎ ((opens (farK1 false) x (r .sentK2) local ≡ true)
+          × (u ≡ recordAfter s now0 (farK1 false) (farK2 false) (r .sentK1)))
+      go true e =
+          let hidden =
+          one-hidden-step (s .n) (s .mask) (s .w) (s .left) last (held last) (held x) x carry .1 (caused cause sends true e) in
+          let second : secondFits (r .sentK2) 0 ≡ true =
+          rw (bridge-none (x .channel) (keepsBridge x)) at (second-is cause sends true e) in
+          inl (and-eq-true-iff (unseen (held last) (held x) x) (secondFits (r .sentK2) 0) .1 (hidden .possible, second), record-is cause sends true e)
+      go false e =
+          let opened =
+          one-step (s .n) (s .mask) (s .w) (s .left) last (far false) (held last) (held x) x carry .1
+          (caused cause sends false e) in
+          let both =
+          and-eq-true-iff (answers (far false) x local)
+          (secondFits (r .sentK2) (bridge (far false .channel) (x .channel) (keepsBridge x))) .1
+          (opened .possible, second-is cause sends false e) in
+          inr (subst OpenBy (far-asked false) both, record-is cause sends false e)
+
+  abbrev Some : Controller → Type 0
+  Some u = (cause : Cause) × Sends (stepped s cause r) r × (u ≡ stepped s cause r .controller)
+
+  -- and each of them is left by some cause
+  module _ (pair : UsablePair (s .n) (r .sentK1) (r .sentK2)) where
+    caused-sends : (t : Bool) → Caused (s .n) (s .mask) (s .w) (s .left) last t (far t) (held last) (held x) x
+        → secondFits (r .sentK2) (bridge (far t .channel) (x .channel) (keepsBridge x)) ≡ true
+        → Some (recordAfter s now0 (farK1 t) (farK2 t) (r .sentK1))
+    caused-sends t by fits = (cause, sends, sym (record-is cause sends t (by .protects)))
+      where
+        cause : Cause
+        cause = record { conditions = by .conditions; command = by .command; channel = by .channel }
+
+        taken : stepped s cause r .refusal ≡ 0
+        taken =
+            let f = by .fits in
+            let number = eq-eqb (length (by .conditions)) (s .n + 1) (f .number) in
+            step-taken s (r .k1) (r .k2) (by .conditions) (by .command) (by .channel) (able .fits) (able .mask-fits)
+            (able .accepts) (rw (number, f .conditions-fit, le-leb (by .command) 4 (f .command-fits), f .channel-fits))
+
+        sends : Sends (stepped s cause r) r
+        sends =
+            let answered = step-is cause t (by .protects) taken in
+            record {
+              taken = taken;
+              first = answered .first ∙ ap k1Of (by .sends) ∙ k1-whole (r .sentK1);
+              second =
+                  answered .second
+                  ∙ ap (λ (y : Request). k2Of (bridge (far t .channel) (y .channel) (keepsBridge y))) (by .sends)
+                  ∙ second-back (s .n) (r .sentK1) (r .sentK2) (bridge (far t .channel) (x .channel) (keepsBridge x)) pair fits;
+            }
+
+  pub reached-sends : (u : Controller) → Reached u → Some u
+  unfolding accepting
+  reached-sends u (fits, how) =
+      let pair =
+      unmarked (s .n) (r .sentK1) (r .sentK2) (able .fits)
+      (eqb-true (mark (s .n) (r .sentK1) (r .sentK2)) 0 fits) in
+      ⊎-elim (λ h. subst Some (sym (h .1)) (hides pair (h .0))) (λ h. subst Some (sym (h .1)) (opened pair (h .0))) how
+    where
+      hides : UsablePair (s .n) (r .sentK1) (r .sentK2) → hiddenIn s x (r .sentK2) ≡ true
+          → Some (recordAfter s now0 idleK1 idleK2 (r .sentK1))
+      hides pair h =
+          let both = and-eq-true-iff (unseen (held last) (held x) x) (secondFits (r .sentK2) 0) .0 h in
+          let by =
+          one-hidden-step (s .n) (s .mask) (s .w) (s .left) last (held last) (held x) x (pair .carried) .0
+          record { before = refl; possible = both .0; afterwards = refl } in
+          caused-sends pair true by (rw (bridge-none (x .channel) (keepsBridge x)) (both .1))
+
+      opened : UsablePair (s .n) (r .sentK1) (r .sentK2) → opens (farK1 false) x (r .sentK2) local ≡ true
+          → Some (recordAfter s now0 (farK1 false) (farK2 false) (r .sentK1))
+      opened pair h =
+          let here = subst OpenBy (sym (far-asked false)) h in
+          let both =
+          and-eq-true-iff (answers (far false) x local)
+          (secondFits (r .sentK2) (bridge (far false .channel) (x .channel) (keepsBridge x))) .0 here in
+          let by =
+          one-step (s .n) (s .mask) (s .w) (s .left) last (far false) (held last) (held x) x (pair .carried) .0
+          record { before = refl; possible = both .0; afterwards = refl } in
+          caused-sends pair false by (both .1)

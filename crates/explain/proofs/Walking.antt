@@ -1,0 +1,119 @@
+-- The walk over a capture's bytes: what is left to scan gives the verdict of the whole.
+use mathlib.Core.Path.{_≡_, refl, sym, ap, subst, _∙_}
+use mathlib.Core.Bool.{Bool, true, false}
+use mathlib.Core.List.{List, [], _∷_}
+use Prim.Native.Nat.{ℕ, suc, _+_, _*_, _-_, _%_, _≤_, _<_, zero-le}
+use native.Mathlib.Numerals.{add-one}
+use native.Mathlib.Omega.{arith}
+use lib.Dec.{eqb}
+use lib.ListN.{length, getD, drop, drop-of-length-le}
+use lib.Seq.{drop-cons}
+use Rattle.pair.specs.Marks.{mark}
+use Rattle.pair.specs.Coder.{sectionsFit}
+use Rattle.explain.specs.Capture.{Row, row, rowsOf}
+use Rattle.explain.specs.Verdict.{explainedAt, unexplainedAt, most}
+use Rattle.explain.specs.Scan.{scanFrom}
+use Rattle.explain.specs.Trace.{live, traced, next, verdictOf}
+use Rattle.explain.specs.declared.Records.{Records}
+
+-- at a step, behind the bytes of those before it
+pub record Walk (bytes : List ℕ) (begin left : Records) (step at : ℕ) : Type 0 where
+  pub place : at ≡ 4 * step
+  pub within : at ≤ length bytes
+  pub whole : length bytes % 4 ≡ 0
+  pub small : length bytes ≤ most
+  pub fits : sectionsFit (left .controller .n) ≡ true
+  pub remains :
+      verdictOf (scanFrom next live step left (rowsOf (drop at bytes)))
+      ≡ verdictOf (scanFrom next live 0 begin (rowsOf bytes))
+
+pub walk-start : (bytes : List ℕ) (begin : Records) → sectionsFit (begin .controller .n) ≡ true → length bytes % 4 ≡ 0
+    → length bytes ≤ most → Walk bytes begin begin 0 0
+walk-start bytes begin fits whole small =
+    record { place = refl; within = zero-le; whole = whole; small = small; fits = fits; remains = refl }
+
+-- the settings stay
+next-sections : (d : Records) (r : Row) → next d r .controller .n ≡ d .controller .n
+unfolding next traced
+next-sections d r =
+    go (eqb (mark (d .controller .n) (r .sentK1) (r .sentK2)) 0) (eqb (mark (d .controller .n) (r .k1) (r .k2)) 0) refl refl
+  where
+    go : (a b : Bool) → eqb (mark (d .controller .n) (r .sentK1) (r .sentK2)) 0 ≡ a
+        → eqb (mark (d .controller .n) (r .k1) (r .k2)) 0 ≡ b → next d r .controller .n ≡ d .controller .n
+    go true true e f = rw (e, f)
+    go true false e f = rw (e, f)
+    go false b e f = rw e
+
+module _ {bytes : List ℕ} {begin left : Records} {step at : ℕ} (w : Walk bytes begin left step at) where
+  abbrev here : Row
+  here = row (getD bytes at 0) (getD bytes (at + 1) 0) (getD bytes (at + 2) 0) (getD bytes (at + 3) 0)
+
+  -- a step begun is there whole
+  pub whole-step : at < length bytes → at + 4 ≤ length bytes
+  whole-step h =
+      let p = w .place in
+      let q = w .whole in
+      omega arith
+
+  pub few-steps : at < length bytes → step < 16384
+  few-steps h =
+      let p = w .place in
+      let q = w .small in
+      omega arith
+
+  row-here : at < length bytes → rowsOf (drop at bytes) ≡ here ∷ rowsOf (drop (at + 4) bytes)
+  row-here h =
+      let room = whole-step h in
+      let first : drop at bytes ≡ getD bytes at 0 ∷ drop (suc at) bytes = drop-cons bytes at 0 h in
+      let second : drop (at + 1) bytes ≡ getD bytes (at + 1) 0 ∷ drop (suc (at + 1)) bytes =
+      drop-cons bytes (at + 1) 0 (omega arith) in
+      let third : drop (at + 2) bytes ≡ getD bytes (at + 2) 0 ∷ drop (suc (at + 2)) bytes =
+      drop-cons bytes (at + 2) 0 (omega arith) in
+      let fourth : drop (at + 3) bytes ≡ getD bytes (at + 3) 0 ∷ drop (suc (at + 3)) bytes =
+      drop-cons bytes (at + 3) 0 (omega arith) in
+      let one : suc at ≡ at + 1 = omega arith in
+      let two : suc (at + 1) ≡ at + 2 = omega arith in
+      let three : suc (at + 2) ≡ at + 3 = omega arith in
+      let four : suc (at + 3) ≡ at + 4 = omega arith in
+      ap rowsOf
+      (first
+      ∙ ap (λ (l : List ℕ). getD bytes at 0 ∷ l) (ap (λ (i : ℕ). drop i bytes) one
+      ∙ second
+      ∙ ap (λ (l : List ℕ). getD bytes (at + 1) 0 ∷ l) (ap (λ (i : ℕ). drop i bytes) two
+      ∙ third
+      ∙ ap (λ (l : List ℕ). getD bytes (at + 2) 0 ∷ l) (ap (λ (i : ℕ). drop i bytes) three
+      ∙ fourth
+      ∙ ap (λ (l : List ℕ). getD bytes (at + 3) 0 ∷ l) (ap (λ (i : ℕ). drop i bytes) four)))))
+
+  abbrev rest : List Row
+  rest = rowsOf (drop (at + 4) bytes)
+
+  step-here : at < length bytes
+      → verdictOf (scanFrom next live step left (here ∷ rest)) ≡ verdictOf (scanFrom next live 0 begin (rowsOf bytes))
+  step-here h = ap (λ (l : List Row). verdictOf (scanFrom next live step left l)) (sym (row-here h)) ∙ w .remains
+
+  pub walk-next : at < length bytes → {new : Records} → new ≡ next left here → live new ≡ true
+      → Walk bytes begin new (step + 1) (at + 4)
+  walk-next h {new} is e =
+      let p = w .place in
+      let goes : live (next left here) ≡ true = rw is at e in
+      rw is
+      record {
+        place = omega arith;
+        within = whole-step h;
+        whole = w .whole;
+        small = w .small;
+        fits = rw (next-sections left here) (w .fits);
+        remains =
+            ap (λ (k : ℕ). verdictOf (scanFrom next live k (next left here) rest)) (add-one step)
+            ∙ (rw goes at (step-here h));
+      }
+
+  pub walk-stop : at < length bytes → {new : Records} → new ≡ next left here → live new ≡ false
+      → unexplainedAt step ≡ verdictOf (scanFrom next live 0 begin (rowsOf bytes))
+  walk-stop h {new} is e =
+      let stops : live (next left here) ≡ false = rw is at e in
+      rw stops at (step-here h)
+
+  pub walk-done : length bytes ≤ at → explainedAt step ≡ verdictOf (scanFrom next live 0 begin (rowsOf bytes))
+  walk-done h = rw (drop-of-length-le bytes h) at (w .remains)

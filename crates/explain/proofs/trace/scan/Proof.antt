@@ -1,0 +1,111 @@
+-- `scan` meets its contract: what is left to scan gives the verdict of the whole.
+use lib.ListN.{length}
+use Prim.Native.Nat.{_-_}
+use native.Mathlib.Omega.{arith}
+use borrow.Author.Needs.{needs}
+use borrow.Author.Tests.{not-true, not-false}
+use mathlib.Core.Bool.{_||_}
+use Rattle.explain.proofs.Walking.{Walk, walk-start, whole-step, few-steps, walk-next, walk-stop, walk-done}
+use Rattle.explain.proofs.trace.scan.Statement.{statement}
+use Rattle.explain.proofs.trace.scan.Tie as tie
+
+abbrev Inv-loop : tie.InvT-loop
+Inv-loop capture left₀ step₀ at₀ left step at = Walk capture left₀ left step at
+
+abbrev μ-loop : tie.MeasureT-loop
+μ-loop capture left₀ step₀ at₀ left step at = length capture - at
+
+loop-holds : tie.Need-loop-holds Inv-loop μ-loop
+loop-holds c =
+    let a = c .before .args in
+    walk-start (a .capture .now) _ (c .before .pre .0) (c .before .pre .1) (c .before .pre .2)
+
+shared-slice-read-next : tie.Need-shared-slice-read-next Inv-loop μ-loop
+shared-slice-read-next c =
+    let room = whole-step (c .before .before .loop .inv) (c .before .loop-test .taken) in
+    search needs
+
+add-next : tie.Need-add-next Inv-loop μ-loop
+add-next c =
+    let room = whole-step (c .before .before .loop .inv) (c .before .loop-test .taken) in
+    search needs
+
+shared-slice-read-next-2 : tie.Need-shared-slice-read-next-2 Inv-loop μ-loop
+shared-slice-read-next-2 c =
+    let room = whole-step (c .before .before .before .loop .inv) (c .before .before .loop-test .taken) in
+    search needs
+
+add-next-2 : tie.Need-add-next-2 Inv-loop μ-loop
+add-next-2 c =
+    let room = whole-step (c .before .before .before .loop .inv) (c .before .before .loop-test .taken) in
+    search needs
+
+shared-slice-read-next-3 : tie.Need-shared-slice-read-next-3 Inv-loop μ-loop
+shared-slice-read-next-3 c =
+    let room = whole-step (c .before .before .before .before .loop .inv) (c .before .before .before .loop-test .taken) in
+    search needs
+
+add-next-3 : tie.Need-add-next-3 Inv-loop μ-loop
+add-next-3 c =
+    let room = whole-step (c .before .before .before .before .loop .inv) (c .before .before .before .loop-test .taken) in
+    search needs
+
+shared-slice-read-next-4 : tie.Need-shared-slice-read-next-4 Inv-loop μ-loop
+shared-slice-read-next-4 c =
+    let room = whole-step (c .before .before .before .before .before .loop .inv) (c .before .before .before .before .loop-test .taken) in
+    search needs
+
+next-requires : tie.Need-next-requires Inv-loop μ-loop
+next-requires c κs = c .before .before .before .before .before .loop .inv .fits
+
+returns : tie.Need-returns Inv-loop μ-loop
+returns c =
+    let new = c .before .before .next in
+    walk-stop (c .before .before .before .before .before .before .before .before .loop .inv) (c .before .before .before .before .before .before .before .loop-test .taken) (new .ensures)
+    (not-true (new .result .heard || new .result .idle) (c .if1 .taken))
+
+add-step : tie.Need-add-step Inv-loop μ-loop
+add-step c =
+    let few = few-steps (c .before .before .before .before .before .before .before .before .loop .inv) (c .before .before .before .before .before .before .before .loop-test .taken) in
+    search needs
+
+add-at : tie.Need-add-at Inv-loop μ-loop
+add-at c =
+    let room = whole-step (c .before .before .before .before .before .before .before .before .loop .inv) (c .before .before .before .before .before .before .before .loop-test .taken) in
+    search needs
+
+loop-less : tie.Need-loop-less Inv-loop μ-loop
+loop-less c =
+    let room = whole-step (c .before .before .before .before .before .before .before .before .loop .inv) (c .before .before .before .before .before .before .before .loop-test .taken) in
+    search needs
+
+loop-again : tie.Need-loop-again Inv-loop μ-loop
+loop-again c =
+    let new = c .before .before .next in
+    walk-next (c .before .before .before .before .before .before .before .before .loop .inv) (c .before .before .before .before .before .before .before .loop-test .taken) (new .ensures)
+    (not-false (new .result .heard || new .result .idle) (c .if1 .left))
+
+returns-2 : tie.Need-returns-2 Inv-loop μ-loop
+returns-2 c = walk-done (c .before .loop .inv) (c .loop-test .left)
+
+pub scan-spec : {M : Type 1} → statement M
+scan-spec =
+    tie.close
+    (tie.spec
+    Inv-loop
+    μ-loop
+    loop-holds
+    shared-slice-read-next
+    add-next
+    shared-slice-read-next-2
+    add-next-2
+    shared-slice-read-next-3
+    add-next-3
+    shared-slice-read-next-4
+    next-requires
+    returns
+    add-step
+    add-at
+    loop-less
+    loop-again
+    returns-2)

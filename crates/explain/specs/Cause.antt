@@ -1,0 +1,38 @@
+-- What some cause makes a controller send: closed forms, over the command held before the step and the one held after it.
+use mathlib.Core.Bool.{Bool, not, _&&_, _||_}
+use Prim.Native.Nat.{ℕ}
+use lib.Dec.{leb, eqb}
+use Rattle.pair.specs.Request.{rankOf}
+use Rattle.request.specs.Order.{mayWin, byRank}
+use Rattle.request.specs.declared.Request.{Request}
+use Rattle.controller.specs.Rules.{rankOfRequest, taken, condition, isWait, same}
+
+-- the command that is held afterwards was held before, or took the place of the one that was
+abbrev pub commanded : Request → Request → Bool
+commanded hold after = not (eqb (after .code) 0b0000) && (same after hold || taken hold after)
+
+-- a degraded section asks for it, or a failed one but section 0
+abbrev pub conditioned : ℕ → Request → Bool
+conditioned mask x =
+    eqb (x .code) (condition mask (x .channel) 1 .code)
+    || leb 1 (x .channel) && eqb (x .code) (condition mask (x .channel) 2 .code)
+
+-- wait remains for its channel
+abbrev pub waited : ℕ → Request → Request → Bool
+waited now last x = isWait (x .code) && eqb (x .channel) (last .channel) && leb 1 now
+
+-- some cause makes it the local request, section 0 not failed
+unfoldable pub arises : ℕ → Request → Request → ℕ → Request → Request → Bool
+arises mask hold after now last x =
+    eqb (x .code) 0b0000 || commanded hold after || conditioned mask x || waited now last x
+
+-- some cause makes it the local request, section 0 failed: SF0, or LO above it
+unfoldable pub unseen : Request → Request → Request → Bool
+unseen hold after x =
+    eqb (x .channel) 0 && (eqb (x .code) 0b1101 || eqb (x .code) 0b1111 && commanded hold after)
+
+-- it is RR to what the far end asks for, or a local request that the far end does not beat
+unfoldable pub answers : Request → Request → Bool → Bool
+answers far x local =
+    eqb (x .code) 0b0010 && mayWin (rankOfRequest far) && eqb (far .channel) (x .channel)
+    || local && not (byRank rankOf far x)

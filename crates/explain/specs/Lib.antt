@@ -1,0 +1,10 @@
+-- To be believed, in the order of document 01: what a capture is, what it is for it to be explained, the verdict, the judge
+-- lines.
+pub mod Capture
+pub mod Explained
+pub mod Verdict
+pub mod Lines
+-- Not to be believed: what the judge computes, as the contracts inside the crate cite it. That it is exact is proved.
+pub mod Cause
+pub mod Trace
+pub mod Scan

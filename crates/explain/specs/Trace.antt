@@ -1,0 +1,97 @@
+-- What the bytes of a capture leave open of the controller's record. The K1 last sent and the wait left follow from what was
+-- sent. The accepted pair is the last usable one received or, since section 0 may have failed unseen, 00 08.
+use mathlib.Core.Bool.{Bool, true, false, not, _&&_, _||_}
+use mathlib.Core.List.{List}
+use Prim.Native.Nat.{ℕ}
+use lib.Dec.{eqb}
+use Rattle.basics.specs.Choice.{if_then_else_}
+use Rattle.pair.specs.Marks.{channelOf, bridgedOf, lineBits, mark}
+use Rattle.request.specs.Bridge.{bridge}
+use Rattle.request.specs.declared.Request.{Request}
+use Rattle.controller.specs.Settings.{idleK1, idleK2, fresh}
+use Rattle.controller.specs.Rules.{asked, held, leftAfter, keepsBridge}
+use Rattle.controller.specs.Step.{waitOf}
+use Rattle.controller.specs.declared.Controller.{Controller}
+use Rattle.explain.specs.Capture.{Row, row, rowsOf}
+use Rattle.explain.specs.Cause.{arises, unseen, answers}
+use Rattle.explain.specs.Scan.{Scanned, all, first, scanFrom}
+use Rattle.explain.specs.Verdict.{Judging, explainedAt, unexplainedAt}
+use Rattle.explain.specs.declared.Records.{Records}
+
+-- the record with 00 08 accepted
+abbrev pub idled : Controller → Controller
+idled s =
+    record { n = s .n; mask = s .mask; w = s .w; k1 = idleK1; k2 = idleK2; sent = s .sent; left = s .left }
+
+abbrev pub start : Controller → Records
+start s = record { controller = s; heard = true; idle = false }
+
+abbrev pub live : Records → Bool
+live d = d .heard || d .idle
+
+-- nothing is left
+abbrev pub lost : Controller → Records
+lost s = record { controller = s; heard = false; idle = false }
+
+-- the sent K2 has the bridge and the line bits 000
+abbrev pub secondFits : ℕ → ℕ → Bool
+secondFits k2 bridged = eqb (bridgedOf k2) bridged && not (eqb (lineBits k2) 0b110)
+
+-- the pair is sent by a controller that has accepted the K1
+abbrev pub opens : ℕ → Request → ℕ → Bool → Bool
+opens k1 x k2 local =
+    answers (asked k1) x local && secondFits k2 (bridge (channelOf k1) (x .channel) (keepsBridge x))
+
+-- whether x is a local request, with section 0 good enough and failed
+abbrev pub localIn : Controller → Request → Bool
+localIn s x =
+    let last = asked (s .sent) in
+    arises (s .mask) (held last) (held x) (waitOf s last 0) last x
+
+abbrev pub hiddenIn : Controller → Request → ℕ → Bool
+hiddenIn s x k2 = unseen (held (asked (s .sent))) (held x) x && secondFits k2 0
+
+-- the record after the step, with a pair accepted
+abbrev pub recordAfter : Controller → ℕ → ℕ → ℕ → ℕ → Controller
+recordAfter s now k1 k2 sentK1 =
+    record {
+      n = s .n;
+      mask = s .mask;
+      w = s .w;
+      k1 = k1;
+      k2 = k2;
+      sent = sentK1;
+      left = leftAfter (asked sentK1) now;
+    }
+
+-- with a usable pair sent
+unfoldable pub traced : Records → Row → Records
+traced d r =
+    let s = d .controller in
+    let x = asked (r .sentK1) in
+    let now = waitOf s (asked (s .sent)) 0 in
+    let local = localIn s x in
+    if eqb (mark (s .n) (r .k1) (r .k2)) 0 then
+    record {
+      controller = recordAfter s now (r .k1) (r .k2) (r .sentK1);
+      heard = opens (r .k1) x (r .sentK2) local;
+      idle = hiddenIn s x (r .sentK2);
+    }
+    else
+    record {
+      controller = recordAfter s now (s .k1) (s .k2) (r .sentK1);
+      heard = d .heard && opens (s .k1) x (r .sentK2) local;
+      idle = d .idle && opens idleK1 x (r .sentK2) local || hiddenIn s x (r .sentK2);
+    }
+
+unfoldable pub next : Records → Row → Records
+next d r =
+    if eqb (mark (d .controller .n) (r .sentK1) (r .sentK2)) 0 then traced d r else lost (d .controller)
+
+-- the verdict of the scan
+abbrev pub verdictOf : Scanned → Judging
+verdictOf (all k) = explainedAt k
+verdictOf (first i) = unexplainedAt i
+
+abbrev pub scanned : Controller → List ℕ → Judging
+scanned s bytes = verdictOf (scanFrom next live 0 (start s) (rowsOf bytes))

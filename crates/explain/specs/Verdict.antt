@@ -1,0 +1,65 @@
+-- What the judge answers (01, 'The judge' and 'Numbered refusals').
+use mathlib.Core.Path.{_≡_}
+use mathlib.Core.Bool.{not}
+use mathlib.Core.List.{List, [], _∷_, _++_}
+use mathlib.Core.Logic.{_⊎_}
+use Prim.Native.Nat.{ℕ, _+_, _%_}
+use lib.Dec.{ltb, eqb}
+use lib.ListN.{length, take}
+use Rattle.basics.specs.Choice.{if_then_else_}
+use Rattle.basics.specs.First.{Check, _when_, firstOf}
+use Rattle.controller.specs.Settings.{settingsFaults}
+use Rattle.explain.specs.Capture.{Row, rowsOf}
+use Rattle.explain.specs.Explained.{Explained}
+use Rattle.explain.specs.declared.Verdict.{Verdict}
+use Rattle.explain.specs.declared.Verdict.the-variants as verdict
+
+-- the refusal; the verdict, 1 for explained and 2 for unexplained; the number of steps, or of the first step without
+-- explanation
+pub record Judging : Type 0 where
+  pub refusal : ℕ
+  pub verdict : ℕ
+  pub at : ℕ
+
+abbrev pub explainedAt : ℕ → Judging
+explainedAt k = record { refusal = 0; verdict = 1; at = k }
+
+abbrev pub unexplainedAt : ℕ → Judging
+unexplainedAt i = record { refusal = 0; verdict = 2; at = i }
+
+abbrev pub refusedBy : ℕ → Judging
+refusedBy k = record { refusal = k; verdict = 0; at = 0 }
+
+-- the numbers that each case of the enum stands for
+abbrev pub told : Verdict → Judging
+told (verdict.Explained k) = explainedAt k
+told (verdict.Unexplained i) = unexplainedAt i
+told (verdict.Refused k) = refusedBy k
+
+-- bytes of a capture
+abbrev pub most : ℕ
+most = 65536
+
+-- refusals 8 and 9
+abbrev pub sizeFaults : ℕ → List Check
+sizeFaults size = (8 when not (eqb (size % 4) 0)) ∷ (9 when ltb most size) ∷ []
+
+-- refusals 1, 2, 8, 9, in this order
+abbrev pub faults : ℕ → ℕ → ℕ → List Check
+faults n mask size = settingsFaults n mask ++ sizeFaults size
+
+-- explained with the number of steps; or unexplained with the number, from 0, of the first step such that the steps up to
+-- and with it have no explanation
+abbrev pub Found : ℕ → ℕ → ℕ → List Row → Judging → Type 0
+Found n mask w rows j =
+    ((j ≡ explainedAt (length rows)) × Explained n mask w rows)
+    ⊎ ((i : ℕ)
+    × (j ≡ unexplainedAt i)
+    × Explained n mask w (take i rows)
+    × (Explained n mask w (take (i + 1) rows) → ⊥))
+
+-- the right answer for a capture
+unfoldable pub Right : ℕ → ℕ → ℕ → List ℕ → Judging → Type 0
+Right n mask w bytes j =
+    let refusal = firstOf (faults n mask (length bytes)) in
+    if eqb refusal 0 then Found n mask w (rowsOf bytes) j else (j ≡ refusedBy refusal)

@@ -1,0 +1,72 @@
+// What some cause makes the controller send (01, 'One step', rules 2 to 4, read from what was sent).
+use controller::command::held;
+use controller::section::condition;
+use pair::request::rank;
+use request::Request;
+use request::better;
+use request::replaces;
+ghost use Rattle.controller.specs.Rules.{held};
+ghost use Rattle.explain.specs.Cause.{commanded, conditioned, waited, arises, unseen, answers};
+ghost use mathlib.Core.Path.{_≡_};
+
+pub(crate) const NOTHING: u8 = 0b0000;
+
+const REVERSE: u8 = 0b0010;
+
+pub(crate) const WAIT_TO_RESTORE: u8 = 0b0110;
+
+const FAIL: u8 = 0b1101;
+
+const LOCKOUT: u8 = 0b1111;
+
+fn commanded(hold: Request, after: Request) -> bool
+    ensures { λ r. ⌜ r ≡ commanded hold after ⌝ }
+{
+    let goes_on = (after.code == hold.code) & (after.channel == hold.channel);
+    let replaced = replaces(
+        rank(hold.code, hold.channel),
+        rank(after.code, after.channel),
+    );
+    (after.code != NOTHING) & (goes_on | replaced)
+}
+
+fn conditioned(mask: u16, x: Request) -> bool
+    ensures { λ r. ⌜ r ≡ conditioned mask x ⌝ }
+{
+    let degraded = condition(mask, x.channel, 1);
+    let failed = condition(mask, x.channel, 2);
+    (x.code == degraded.code) | ((1 <= x.channel) & (x.code == failed.code))
+}
+
+fn waited(now: u16, last: Request, x: Request) -> bool
+    ensures { λ r. ⌜ r ≡ waited now last x ⌝ }
+{
+    (x.code == WAIT_TO_RESTORE) & (x.channel == last.channel) & (1 <= now)
+}
+
+// One command a step: a clear that drops the held one leaves no room for a new one.
+pub(crate) fn arises(mask: u16, last: Request, now: u16, x: Request) -> bool
+    ensures { λ r. ⌜ r ≡ arises mask (held last) (held x) now last x ⌝ }
+{
+    let by_command = commanded(held(last), held(x));
+    let by_condition = conditioned(mask, x);
+    let by_wait = waited(now, last, x);
+    (x.code == NOTHING) | by_command | by_condition | by_wait
+}
+
+// Section 0 has failed, unseen under LO.
+pub(crate) fn unseen(last: Request, x: Request) -> bool
+    ensures { λ r. ⌜ r ≡ unseen (held last) (held x) x ⌝ }
+{
+    let by_command = commanded(held(last), held(x));
+    (x.channel == 0) & ((x.code == FAIL) | ((x.code == LOCKOUT) & by_command))
+}
+
+pub(crate) fn answers(far: Request, x: Request, local: bool) -> bool
+    ensures { λ r. ⌜ r ≡ answers far x local ⌝ }
+{
+    let rank_far = rank(far.code, far.channel);
+    let beaten = better(rank_far, far.channel, rank(x.code, x.channel), x.channel);
+    let reversed = (x.code == REVERSE) & (0 < rank_far) & (far.channel == x.channel);
+    reversed | (local & !beaten)
+}

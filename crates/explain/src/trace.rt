@@ -1,0 +1,127 @@
+// The scan: what the bytes so far leave open of the controller's record (01, 'The judge').
+use crate::Records;
+use crate::Verdict;
+use crate::cause::NOTHING;
+use crate::cause::WAIT_TO_RESTORE;
+use crate::cause::answers;
+use crate::cause::arises;
+use crate::cause::unseen;
+use controller::Controller;
+use controller::asked::asked;
+use controller::wait::wait_of;
+use pair::Decoded;
+use pair::decode;
+use request::Request;
+use request::bridge;
+ghost use Prim.Native.Nat.{_≤_, _%_};
+ghost use Rattle.explain.specs.Capture.{row};
+ghost use Rattle.explain.specs.Trace.{secondFits, opens, recordAfter, traced, next, scanned};
+ghost use Rattle.explain.specs.Verdict.{told, most};
+ghost use Rattle.pair.specs.Coder.{sectionsFit};
+ghost use lib.ListN.{length};
+ghost use mathlib.Core.Bool.{true};
+ghost use mathlib.Core.Path.{_≡_};
+
+// A sent K2 has line bits 000.
+fn second_fits(k2: u8, bridged: u8) -> bool
+    ensures { λ r. ⌜ r ≡ secondFits k2 bridged ⌝ }
+{
+    (k2 / 16 == bridged) & (k2 % 8 != 0b110)
+}
+
+fn opens(k1: u8, x: Request, k2: u8, local: bool) -> bool
+    ensures { λ r. ⌜ r ≡ opens k1 x k2 local ⌝ }
+{
+    let far = asked(k1);
+    let bridged = bridge(far.channel, x.channel, x.code == NOTHING);
+    answers(far, x, local) & second_fits(k2, bridged)
+}
+
+// The K1 last sent and the wait left follow from what was sent.
+fn record_after(s: Controller, now: u16, k1: u8, k2: u8, sent: u8) -> Controller
+    ensures { λ r. ⌜ r ≡ recordAfter s now k1 k2 sent ⌝ }
+{
+    let left = if sent / 16 == WAIT_TO_RESTORE { now } else { 0 };
+    Controller {
+        n: s.n,
+        mask: s.mask,
+        w: s.w,
+        k1,
+        k2,
+        sent,
+        left,
+    }
+}
+
+fn traced(d: Records, k1: u8, k2: u8, sent1: u8, sent2: u8) -> Records
+    requires { ⌜ sectionsFit (d .controller .n) ≡ true ⌝ }
+    ensures { λ r. ⌜ r ≡ traced d (row k1 k2 sent1 sent2) ⌝ }
+{
+    let s = d.controller;
+    let last = asked(s.sent);
+    let x = asked(sent1);
+    let now = wait_of(s, last, 0);
+    let local = arises(s.mask, last, now, x);
+    let hidden = unseen(last, x) & second_fits(sent2, 0);
+    let Decoded::Usable(_) = decode(s.n, k1, k2) else {
+        let heard = d.heard & opens(s.k1, x, sent2, local);
+        let idle = (d.idle & opens(Controller::IDLE_K1, x, sent2, local)) | hidden;
+        let controller = record_after(s, now, s.k1, s.k2, sent1);
+        return Records {
+            controller,
+            heard,
+            idle,
+        };
+    };
+    let heard = opens(k1, x, sent2, local);
+    let controller = record_after(s, now, k1, k2, sent1);
+    Records {
+        controller,
+        heard,
+        idle: hidden,
+    }
+}
+
+pub(crate) fn next(d: Records, k1: u8, k2: u8, sent1: u8, sent2: u8) -> Records
+    requires { ⌜ sectionsFit (d .controller .n) ≡ true ⌝ }
+    ensures { λ r. ⌜ r ≡ next d (row k1 k2 sent1 sent2) ⌝ }
+{
+    let s = d.controller;
+    let Decoded::Usable(_) = decode(s.n, sent1, sent2) else {
+        return Records {
+            controller: s,
+            heard: false,
+            idle: false,
+        };
+    };
+    traced(d, k1, k2, sent1, sent2)
+}
+
+pub(crate) fn scan(s: Controller, capture: &[u8]) -> Verdict
+    requires { ⌜ (sectionsFit (s .n) ≡ true) × (length (now capture) % 4 ≡ 0) × (length (now capture) ≤ most) ⌝ }
+    ensures { λ r. ⌜ told r ≡ scanned s (now (capture .entry)) ⌝ }
+{
+    let mut left = Records {
+        controller: s,
+        heard: true,
+        idle: false,
+    };
+    let mut step: u16 = 0;
+    let mut at: usize = 0;
+    while at < capture.len() {
+        left = next(
+            left,
+            capture[at],
+            capture[at + 1],
+            capture[at + 2],
+            capture[at + 3],
+        );
+        let live = left.heard | left.idle;
+        if !live {
+            return Verdict::Unexplained(step);
+        }
+        step += 1;
+        at += 4;
+    }
+    Verdict::Explained(step)
+}

@@ -1,0 +1,166 @@
+//! Captures, and the books they are bound into.
+
+use crate::book::{self, MOST_BYTES, MOST_ENTRIES};
+use crate::controller::{self, Record};
+use crate::judge::Row;
+#[cfg(test)]
+use crate::judge::{judge, Verdict};
+use crate::trials::contents_to_write;
+
+/// Any numbers may stand here: some captures are made to be refused.
+#[derive(Clone, Copy, Debug)]
+pub struct Settings {
+    pub n: u8,
+    pub mask: u16,
+    pub w: u16,
+}
+
+impl Settings {
+    /// For settings that are good.
+    pub fn fresh(self) -> Record {
+        controller::fresh(self.n, self.mask, self.w).expect("settings within the paper's bounds")
+    }
+}
+
+#[derive(Clone, Debug)]
+pub struct Capture {
+    pub settings: Settings,
+    pub rows: Vec<Row>,
+}
+
+impl Capture {
+    pub fn new(settings: Settings, rows: impl Into<Vec<Row>>) -> Self {
+        Self {
+            settings,
+            rows: rows.into(),
+        }
+    }
+
+    #[cfg(test)]
+    pub fn judged(&self) -> Verdict {
+        let Settings { n, mask, w } = self.settings;
+        judge(n, mask, w, self.rows.as_flattened())
+    }
+}
+
+/// A capture whose verdict is known from the way it was put together.
+pub struct Told {
+    pub capture: Capture,
+    /// The first step without an explanation, if there is one.
+    #[cfg_attr(
+        not(test),
+        expect(dead_code, reason = "it is the tests that look at it")
+    )]
+    pub wrong: Option<usize>,
+}
+
+impl Told {
+    pub fn new(settings: Settings, rows: Vec<Row>, wrong: Option<usize>) -> Self {
+        Self {
+            capture: Capture::new(settings, rows),
+            wrong,
+        }
+    }
+
+    pub fn captures(all: Vec<Self>) -> Vec<Capture> {
+        all.into_iter().map(|told| told.capture).collect()
+    }
+
+    #[cfg(test)]
+    pub fn verdict(&self) -> Verdict {
+        match self.wrong {
+            Some(step) => Verdict::Unexplained(step),
+            None => Verdict::Explained(self.capture.rows.len()),
+        }
+    }
+}
+
+/// A step in which the first pair was received and the second sent.
+pub fn row([k1, k2]: [u8; 2], [sent_k1, sent_k2]: [u8; 2]) -> Row {
+    [k1, k2, sent_k1, sent_k2]
+}
+
+/// Binds captures into as few books as hold them in their order, since each book
+/// costs a process.
+pub fn bind(captures: &[Capture]) -> Vec<Vec<u8>> {
+    let mut books = Vec::new();
+    let mut rest = captures;
+    while !rest.is_empty() {
+        let (bound, left) = rest.split_at(fitting(rest));
+        books.push(written(bound));
+        rest = left;
+    }
+    books
+}
+
+/// How many captures from the front one book has room for.
+fn fitting(captures: &[Capture]) -> usize {
+    (1..=captures.len().min(MOST_ENTRIES))
+        .take_while(|&count| book_bytes(&captures[..count]) <= MOST_BYTES)
+        .last()
+        .expect("a capture that a book has room for")
+}
+
+fn book_bytes(captures: &[Capture]) -> usize {
+    let bodies: usize = captures
+        .iter()
+        .map(|capture| capture.rows.as_flattened().len())
+        .sum();
+    book::contents_bytes(captures.len()) + bodies
+}
+
+fn written(captures: &[Capture]) -> Vec<u8> {
+    let contents = contents_to_write(captures.iter().map(|Capture { settings, rows }| {
+        let Settings { n, mask, w } = *settings;
+        (n, mask, w, rows.len() as u16)
+    }));
+    let bodies: Vec<u8> = captures
+        .iter()
+        .flat_map(|capture| capture.rows.as_flattened())
+        .copied()
+        .collect();
+    let mut book = vec![0; book_bytes(captures)];
+    book::write(&contents, &bodies, &mut book).expect("captures that a book has room for");
+    book
+}
+
+#[cfg(test)]
+mod tests {
+    use super::*;
+    use crate::trials::PAPER_BOOK;
+
+    const SETTINGS: Settings = Settings {
+        n: 2,
+        mask: 0,
+        w: 3,
+    };
+
+    fn of_steps(steps: usize) -> Capture {
+        Capture::new(SETTINGS, vec![[0x00, 0x08, 0x00, 0x08]; steps])
+    }
+
+    #[test]
+    fn the_book_of_the_paper_is_bound() {
+        let first = [
+            [0x00, 0x08, 0xA2, 0x08],
+            [0x22, 0x28, 0xA2, 0x28],
+            [0x22, 0x28, 0x62, 0x28],
+        ];
+        let second = [[0x00, 0x08, 0xA2, 0x08], [0x22, 0x28, 0xA2, 0x08]];
+        let captures = [
+            Capture::new(SETTINGS, first),
+            Capture::new(SETTINGS, second),
+        ];
+        assert_eq!(bind(&captures), [PAPER_BOOK]);
+    }
+
+    #[test]
+    fn books_are_filled_and_none_is_too_long() {
+        assert!(bind(&[]).is_empty());
+        let lengths = |books: &[Vec<u8>]| books.iter().map(Vec::len).collect::<Vec<_>>();
+        let many = bind(&vec![of_steps(1); 130]);
+        assert_eq!(lengths(&many), [2 + 64 * 16, 2 + 64 * 16, 2 + 2 * 16]);
+        let long = bind(&[of_steps(16_380), of_steps(0), of_steps(16_377), of_steps(1)]);
+        assert_eq!(lengths(&long), [65_534, 26 + 65_508, 18]);
+    }
+}

@@ -1,0 +1,106 @@
+//! All books, shared out among as many threads as there are processors.
+
+use super::compare::{compare, Compared};
+use super::report::Report;
+use super::Job;
+use std::io::{self, Write};
+use std::num::NonZero;
+use std::path::Path;
+use std::sync::atomic::{AtomicUsize, Ordering};
+use std::sync::mpsc::{self, Receiver, Sender};
+use std::thread;
+use std::time::{Duration, Instant};
+
+const PROGRESS_EVERY: Duration = Duration::from_millis(250);
+
+/// A job's number, and what came of it.
+type Done = (usize, io::Result<Compared>);
+
+/// Ends with the first error, which is one of running the program. How far it
+/// has come is told to `progress`.
+pub fn compare_all(
+    program: &Path,
+    jobs: &[Job],
+    report: &mut Report,
+    progress: &mut impl Write,
+) -> io::Result<()> {
+    let next = AtomicUsize::new(0);
+    let (sender, done) = mpsc::channel();
+    thread::scope(|scope| {
+        for _ in 0..thread::available_parallelism().map_or(1, NonZero::get) {
+            let (next, sender) = (&next, sender.clone());
+            scope.spawn(move || work(program, jobs, next, &sender));
+        }
+        // The channel ends when the last worker does.
+        drop(sender);
+        gather(done, report, progress)
+    })
+}
+
+/// Takes jobs until there are none left, or nobody wants to know.
+fn work(program: &Path, jobs: &[Job], next: &AtomicUsize, sender: &Sender<Done>) {
+    loop {
+        let number = next.fetch_add(1, Ordering::Relaxed);
+        let Some(job) = jobs.get(number) else {
+            return;
+        };
+        let compared = compare(program, &job.book);
+        if sender.send((number, compared)).is_err() {
+            return;
+        }
+    }
+}
+
+fn gather(done: Receiver<Done>, report: &mut Report, progress: &mut impl Write) -> io::Result<()> {
+    let mut told = Instant::now();
+    for (number, compared) in done {
+        report.add(number, compared?);
+        if told.elapsed() >= PROGRESS_EVERY {
+            told = Instant::now();
+            tell(progress, report, "");
+        }
+    }
+    tell(progress, report, "\n");
+    Ok(())
+}
+
+/// Over the same line again. That it cannot be written is no reason to stop.
+fn tell(progress: &mut impl Write, report: &Report, end: &str) {
+    let told = write!(progress, "\r{}{end}", report.progress());
+    let _ = told.and_then(|()| progress.flush());
+}
+
+#[cfg(all(test, unix))]
+mod tests {
+    use super::super::compare::Kind;
+    use super::super::group;
+    use super::*;
+    use crate::trials::PAPER_BOOK;
+
+    fn jobs() -> Vec<Job> {
+        let job = |_| Job {
+            group: 0,
+            book: PAPER_BOOK.to_vec(),
+        };
+        (0..20).map(job).collect()
+    }
+
+    #[test]
+    fn every_book_is_compared_once() {
+        let groups = [group("paper", &[Kind::Explained], Vec::new)];
+        let jobs = jobs();
+        let mut report = Report::new(&groups, &jobs);
+        let mut progress = Vec::new();
+        compare_all(Path::new("/bin/true"), &jobs, &mut report, &mut progress).unwrap();
+        let last = b"\r20 of 20 books, 40 captures, 80 differences\n";
+        assert!(progress.ends_with(last));
+    }
+
+    #[test]
+    fn a_program_that_cannot_be_run_ends_it() {
+        let jobs = jobs();
+        let mut report = Report::new(&[], &jobs);
+        let program = Path::new("no/such/program");
+        assert!(compare_all(program, &jobs, &mut report, &mut io::sink()).is_err());
+    }
+}

@@ -1,0 +1,179 @@
+//! Books that are not what a writer wrote, and books of captures that the judge
+//! refuses (paper: "Numbered refusals", 1, 2 and 20 to 28).
+
+use super::capture::{bind, Capture, Settings};
+use super::runs::{self, COMMON, LONGEST};
+use crate::book::{self, MOST_BYTES};
+use crate::draws::Draws;
+use crate::trials::PAPER_BOOK;
+
+const SEED: u64 = 11;
+/// The captures of a book that is to be damaged.
+const CAPTURES: usize = 6;
+const BOOKS_OF_REFUSED: usize = 8;
+
+/// Settings that the judge refuses, and some just inside the bounds.
+const SETTINGS: [(u8, u16); 15] = [
+    (0, 0),
+    (1, 0),
+    (15, 0),
+    (14, 0x3FFF),
+    (255, 0),
+    (0, 0xFFFF),
+    (2, 3),
+    (2, 4),
+    (1, 2),
+    (14, 0x4000),
+    (14, 0x8000),
+    (15, 0x8000),
+    (3, 0xFFFF),
+    (3, 7),
+    (16, 0),
+];
+
+pub fn books() -> Vec<Vec<u8>> {
+    let mut draws = Draws::from_seed(SEED);
+    let drawn = drawn_book(&mut draws);
+    let mut books = vec![PAPER_BOOK.to_vec(), drawn.clone()];
+    books.extend(with_every_value(&PAPER_BOOK, contents_of(&PAPER_BOOK)));
+    books.extend(with_some_values(&drawn, contents_of(&drawn)));
+    books.extend(cut_and_extended(&PAPER_BOOK));
+    books.extend(cut_and_extended(&drawn));
+    books.extend((0..BOOKS_OF_REFUSED).map(|_| book_of_refused(&mut draws)));
+    books.extend(by_length(&mut draws));
+    books.extend(without_captures());
+    books
+}
+
+fn drawn_book(draws: &mut Draws) -> Vec<u8> {
+    let captures: Vec<Capture> = (0..CAPTURES)
+        .map(|steps| runs::draw_of_any_settings(draws, COMMON, steps))
+        .collect();
+    bind(&captures).concat()
+}
+
+/// The settings that are refused stand on captures that have an explanation under
+/// others.
+fn book_of_refused(draws: &mut Draws) -> Vec<u8> {
+    let captures = SETTINGS.map(|(n, mask)| {
+        let mut capture = runs::draw_of_any_settings(draws, COMMON, 2);
+        let w = capture.settings.w;
+        capture.settings = Settings { n, mask, w };
+        capture
+    });
+    bind(&captures).concat()
+}
+
+/// How many bytes stand before the bodies of a sound book.
+fn contents_of(book: &[u8]) -> usize {
+    book::contents_bytes(book[1].into())
+}
+
+fn with_byte(book: &[u8], place: usize, value: u8) -> Vec<u8> {
+    let mut book = book.to_vec();
+    book[place] = value;
+    book
+}
+
+/// Each of the first bytes with every other value it can have.
+fn with_every_value(book: &[u8], bytes: usize) -> Vec<Vec<u8>> {
+    (0..bytes)
+        .flat_map(|place| (1..=u8::MAX).map(move |change| (place, change)))
+        .map(|(place, change)| with_byte(book, place, book[place] ^ change))
+        .collect()
+}
+
+/// Each of the first bytes with its neighbours, one bit flipped, and the ends of
+/// its range.
+fn with_some_values(book: &[u8], bytes: usize) -> Vec<Vec<u8>> {
+    let values = |old: u8| {
+        [
+            old.wrapping_add(1),
+            old.wrapping_sub(1),
+            old ^ 0x80,
+            0x00,
+            0xFF,
+        ]
+    };
+    (0..bytes)
+        .flat_map(|place| values(book[place]).map(|value| with_byte(book, place, value)))
+        .filter(|damaged| damaged != book)
+        .collect()
+}
+
+/// Cut at every length, and with more behind it.
+fn cut_and_extended(book: &[u8]) -> Vec<Vec<u8>> {
+    let cut = (0..book.len()).map(|length| book[..length].to_vec());
+    let more: [&[u8]; 4] = [&[0], &[1], &[0; 4], &[0; 12]];
+    let extended = more.map(|bytes| [book, bytes].concat());
+    cut.chain(extended).collect()
+}
+
+/// About the bound of a book, and far beyond what a pipe holds. The longest book
+/// has two bytes less than the bound.
+fn by_length(draws: &mut Draws) -> Vec<Vec<u8>> {
+    let settings = Settings {
+        n: 1,
+        mask: 0,
+        w: 3,
+    };
+    let longest = bind(&[runs::draw(draws, COMMON, settings, LONGEST)]).concat();
+    (MOST_BYTES - 3..=MOST_BYTES + 1)
+        .chain([70_000, 1_000_000])
+        .flat_map(|length| {
+            let mut resized = longest.clone();
+            resized.resize(length, 0);
+            [resized, vec![0; length]]
+        })
+        .collect()
+}
+
+fn without_captures() -> Vec<Vec<u8>> {
+    let books: [&[u8]; 6] = [&[1, 0], &[1, 0, 0], &[0, 0], &[1, 64], &[1, 65], &[2, 255]];
+    books.map(<[u8]>::to_vec).into()
+}
+
+#[cfg(test)]
+mod tests {
+    use super::*;
+    use crate::judge::table::Table;
+    use crate::judge::Verdict;
+    use std::collections::BTreeSet;
+
+    #[test]
+    fn every_refusal_of_the_reader_comes_up() {
+        let refusals: BTreeSet<u8> = books()
+            .iter()
+            .filter_map(|book| book::read(book).err())
+            .map(book::Refusal::number)
+            .collect();
+        assert!(refusals.into_iter().eq(20..=28));
+    }
+
+    /// By hand from the bounds: n within 1 to 14, no bit of the mask at n or above.
+    #[test]
+    fn captures_are_refused_beside_good_ones() {
+        let book = book_of_refused(&mut Draws::from_seed(1));
+        let Table::Judged(lines) = Table::of(&book) else {
+            panic!("the book itself is sound");
+        };
+        let refusals = lines.iter().map(|line| match line.verdict {
+            Verdict::Refused(number) => number,
+            _ => 0,
+        });
+        assert!(refusals.eq([1, 0, 1, 0, 1, 1, 0, 2, 2, 2, 2, 1, 2, 0, 1]));
+    }
+
+    #[test]
+    fn every_byte_of_the_contents_is_damaged() {
+        let damaged = with_every_value(&PAPER_BOOK, contents_of(&PAPER_BOOK));
+        let distinct: BTreeSet<Vec<u8>> = damaged.into_iter().collect();
+        assert_eq!(distinct.len(), 26 * 255);
+        assert!(!distinct.contains(&PAPER_BOOK[..]));
+        let drawn = drawn_book(&mut Draws::from_seed(1));
+        let damaged = with_some_values(&drawn, contents_of(&drawn));
+        for place in 0..2 + 12 * 6 {
+            assert!(damaged.iter().any(|book| book[place] != drawn[place]));
+        }
+    }
+}

@@ -1,0 +1,171 @@
+//! Captures that keep LO up while section 0 may have failed unseen (paper:
+//! "Errors a good reader makes", the second).
+//!
+//! A pair is accepted, LO covers some steps, and only unusable pairs come from
+//! then on. When LO is cleared, what is sent shows the accepted pair: the one
+//! that came, or 00 08 if section 0 failed in between.
+
+use super::capture::{row, Capture, Settings, Told};
+use super::changes;
+use super::pairs::{said, IDLE, LOCKOUT, UNUSABLE};
+use super::runs::{self, LOCKED};
+use crate::controller::{self, Record};
+use crate::draws::Draws;
+use crate::judge::Row;
+use crate::pair::Request;
+
+const SIZES: [u8; 5] = [1, 2, 3, 5, 14];
+const MOST_COVERED: usize = 3;
+const SEED: u64 = 10;
+const DRAWN: usize = 300;
+
+pub fn captures() -> Vec<Capture> {
+    let mut captures = Told::captures(told());
+    captures.extend(drawn());
+    captures
+}
+
+fn told() -> Vec<Told> {
+    scenes().iter().flat_map(Scene::tellings).collect()
+}
+
+/// Runs under causes that keep LO up, and the same with one pair replaced.
+fn drawn() -> Vec<Capture> {
+    let mut draws = Draws::from_seed(SEED);
+    let draw = |_| {
+        let steps = 1 + draws.place(30);
+        let run = runs::draw_of_any_settings(&mut draws, LOCKED, steps);
+        let mut other = run.clone();
+        changes::replace(&mut draws, &mut other);
+        [run, other]
+    };
+    (0..DRAWN).flat_map(draw).collect()
+}
+
+/// What stays the same in the captures that are set side by side.
+#[derive(Clone, Copy)]
+struct Scene {
+    settings: Settings,
+    /// The pair that is received with the first LO.
+    received: [u8; 2],
+    /// The steps of LO after it, without a usable pair.
+    covered: usize,
+    /// The section that fails when LO is cleared, if one does: then the bridge is
+    /// what shows the accepted pair.
+    failed: Option<u8>,
+}
+
+fn scenes() -> Vec<Scene> {
+    let settings = SIZES.map(|n| Settings {
+        n,
+        mask: 1 << (n - 1),
+        w: 2,
+    });
+    settings.into_iter().flat_map(scenes_of).collect()
+}
+
+fn scenes_of(settings: Settings) -> impl Iterator<Item = Scene> {
+    let n = settings.n;
+    let received = [
+        said(Request::ManualSwitch, n, 0),
+        said(Request::ForcedSwitch, n, n),
+        said(Request::SignalFailHigh, n, 0),
+        said(Request::SignalDegradeLow, n, n),
+        said(Request::WaitToRestore, n, n),
+        said(Request::Reverse, n, n),
+        said(Request::Lockout, 0, 0),
+        said(Request::SignalFailHigh, 0, 0),
+    ];
+    let scene = move |(number, received)| Scene {
+        settings,
+        received,
+        covered: number % (MOST_COVERED + 1),
+        failed: None,
+    };
+    let quiet = received.into_iter().enumerate().map(scene);
+    quiet.flat_map(move |scene| {
+        let failing = Scene {
+            failed: Some(n),
+            covered: (scene.covered + 2) % (MOST_COVERED + 1),
+            ..scene
+        };
+        [scene, failing]
+    })
+}
+
+impl Scene {
+    /// What is sent when LO is cleared, if that pair is the accepted one.
+    fn shown(&self, accepted: [u8; 2]) -> Row {
+        let record = Record {
+            accepted,
+            sent: LOCKOUT[0],
+            ..self.settings.fresh()
+        };
+        let mut conditions = vec![0; usize::from(self.settings.n) + 1];
+        if let Some(section) = self.failed {
+            conditions[usize::from(section)] = 2;
+        }
+        let [k1, k2] = UNUSABLE;
+        let answer = controller::step(record, k1, k2, &conditions, 1, 0);
+        row(UNUSABLE, [answer.k1, answer.k2])
+    }
+
+    /// The ways this may go on, and what is wrong with each.
+    fn tellings(&self) -> Vec<Told> {
+        let kept = self.shown(self.received);
+        let lost = self.shown(IDLE);
+        // The bridge of an RR is never 0, unless that is its channel (rule 6).
+        let neither = row(UNUSABLE, said(Request::Reverse, self.settings.n, 0));
+        let again = row(UNUSABLE, LOCKOUT);
+        let endings: [(&[Row], Option<usize>); 13] = [
+            (&[kept], None),
+            (&[lost], None),
+            (&[neither], Some(0)),
+            (&[kept, kept], None),
+            (&[lost, lost], None),
+            (&[kept, lost], Some(1)),
+            (&[lost, kept], Some(1)),
+            (&[kept, again, kept], None),
+            (&[kept, again, lost], None),
+            (&[lost, again, lost], None),
+            (&[lost, again, kept], Some(2)),
+            (&[again, kept, neither], Some(2)),
+            (&[again, lost, neither], Some(2)),
+        ];
+        endings
+            .map(|(ending, wrong)| self.telling(ending, wrong))
+            .into()
+    }
+
+    /// The steps under LO with an ending that has something wrong in it, or not.
+    fn telling(&self, ending: &[Row], wrong: Option<usize>) -> Told {
+        let mut rows = vec![row(self.received, LOCKOUT)];
+        rows.resize(1 + self.covered, row(UNUSABLE, LOCKOUT));
+        let wrong = wrong.map(|step| rows.len() + step);
+        rows.extend_from_slice(ending);
+        Told::new(self.settings, rows, wrong)
+    }
+}
+
+#[cfg(test)]
+mod tests {
+    use super::*;
+
+    #[test]
+    fn the_judge_finds_what_is_known_of_each_telling() {
+        for told in told() {
+            assert_eq!(told.capture.judged(), told.verdict(), "{:?}", told.capture);
+        }
+    }
+
+    /// Or what is wrong in the tellings would not be.
+    #[test]
+    fn the_two_accepted_pairs_can_be_told_apart() {
+        let scenes = scenes();
+        assert_eq!(scenes.len(), 5 * 8 * 2);
+        for scene in scenes {
+            let Scene { received, .. } = scene;
+            assert_ne!(scene.shown(received), scene.shown(IDLE), "{received:02X?}");
+        }
+    }
+}

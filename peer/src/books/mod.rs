@@ -1,0 +1,119 @@
+//! The comparison of `peer books`: books are made, another program is run on each
+//! of them, and what it prints is compared byte for byte with the table that this
+//! reading prints.
+
+mod capture;
+mod changes;
+mod commands;
+mod compare;
+mod crew;
+mod damage;
+mod lockout;
+mod pairs;
+mod process;
+mod report;
+mod runs;
+mod steps;
+mod waits;
+
+use capture::bind;
+use compare::Kind;
+use report::Report;
+use std::io;
+use std::path::Path;
+
+pub const USUAL_PROGRAM: &str = "target/bin/judge";
+
+/// Books of one sort.
+struct Group {
+    name: &'static str,
+    /// The answers that its books get by this reading: all of these, and no
+    /// others.
+    shows: &'static [Kind],
+    books: fn() -> Vec<Vec<u8>>,
+}
+
+/// A book to be compared.
+struct Job {
+    /// The place of its group.
+    group: usize,
+    book: Vec<u8>,
+}
+
+const EXPLAINED: &[Kind] = &[Kind::Explained];
+const BOTH: &[Kind] = &[Kind::Explained, Kind::Unexplained];
+const ALL_OF_CAPTURES: &[Kind] = &[Kind::Explained, Kind::Unexplained, Kind::Refused];
+
+/// In the order in which they are reported.
+const GROUPS: [Group; 11] = [
+    group("runs", EXPLAINED, || bind(&runs::captures())),
+    group("flipped", BOTH, || bind(&changes::flipped())),
+    group("cut", BOTH, || bind(&changes::cut())),
+    group("swapped", BOTH, || bind(&changes::swapped())),
+    group("replaced", BOTH, || bind(&changes::replaced())),
+    group("settings", ALL_OF_CAPTURES, || bind(&changes::resettled())),
+    group("lockout", BOTH, || bind(&lockout::captures())),
+    group("waits", BOTH, || bind(&waits::captures())),
+    group("commands", BOTH, || bind(&commands::captures())),
+    group("steps", BOTH, || bind(&steps::captures())),
+    group("damaged", &Kind::ALL, damage::books),
+];
+
+const fn group(name: &'static str, shows: &'static [Kind], books: fn() -> Vec<Vec<u8>>) -> Group {
+    Group { name, shows, books }
+}
+
+/// What the comparison found.
+pub struct Finding {
+    /// Neither a difference, nor a group that does not show what it is for.
+    pub clean: bool,
+    pub text: Vec<u8>,
+}
+
+/// Compares this reading with a program. The error is that of running it.
+pub fn compare(program: &Path) -> io::Result<Finding> {
+    let jobs = jobs();
+    let mut report = Report::new(&GROUPS, &jobs);
+    crew::compare_all(program, &jobs, &mut report, &mut io::stderr())?;
+    let mut text = Vec::new();
+    report.write(&mut text)?;
+    Ok(Finding {
+        clean: report.is_clean(),
+        text,
+    })
+}
+
+fn jobs() -> Vec<Job> {
+    GROUPS
+        .iter()
+        .enumerate()
+        .flat_map(|(group, Group { books, .. })| {
+            books().into_iter().map(move |book| Job { group, book })
+        })
+        .collect()
+}
+
+#[cfg(test)]
+mod tests {
+    use super::*;
+    use crate::book;
+
+    /// Without those that stand in damaged books.
+    #[test]
+    fn there_are_as_many_captures_as_the_order_asks_for() {
+        let damaged = GROUPS.len() - 1;
+        let jobs = jobs();
+        let sound = jobs.iter().filter(|job| job.group != damaged);
+        let captures: usize = sound
+            .map(|job| book::read(&job.book).expect("a sound book"))
+            .map(|contents| usize::from(contents.count))
+            .sum();
+        assert!(captures >= 20_000, "{captures}");
+    }
+
+    #[test]
+    fn the_books_are_the_same_each_time() {
+        let books = || jobs().into_iter().map(|job| job.book);
+        assert!(books().eq(books()));
+    }
+}

@@ -1,0 +1,221 @@
+//! Captures that have an explanation, because a controller was run under drawn
+//! causes to make them. In groups of more than three sections several may be bad
+//! at once, which the judge does not try there.
+
+use super::capture::{row, Capture, Settings};
+use super::pairs::{self, channel_of, said};
+use crate::controller::{self, Record};
+use crate::draws::Draws;
+use crate::judge::Row;
+use crate::pair::Request;
+
+const SEED: u64 = 1;
+const SHORT: usize = 3_500;
+/// One more than the steps of a short run can be.
+const SHORT_BELOW: u16 = 41;
+/// As many steps as one capture can have in a book.
+pub const LONGEST: usize = 16_380;
+
+const WAITS: [u16; 12] = [0, 1, 1, 2, 2, 3, 3, 4, 7, 30, 300, 65_535];
+
+/// n, mask, W and steps of the long runs.
+const LONG: [(u8, u16, u16, usize); 6] = [
+    (1, 1, 2, LONGEST),
+    (2, 1, 3, LONGEST),
+    (3, 5, 1, LONGEST),
+    (14, 0x2A55, 3, LONGEST),
+    (7, 0x55, 65_535, 5_000),
+    (5, 3, 300, 3_000),
+];
+
+/// How often something befalls a run, in sixteenths of its steps.
+#[derive(Clone, Copy)]
+pub struct Habit {
+    clear: u16,
+    lockout: u16,
+    switch: u16,
+    unusable: u16,
+    /// Section 0 fails, whatever the other conditions are.
+    dark: u16,
+}
+
+pub const COMMON: Habit = Habit {
+    clear: 2,
+    lockout: 1,
+    switch: 3,
+    unusable: 4,
+    dark: 0,
+};
+
+/// LO is up most of the time, and what is received is seldom usable.
+pub const LOCKED: Habit = Habit {
+    clear: 3,
+    lockout: 7,
+    switch: 1,
+    unusable: 11,
+    dark: 5,
+};
+
+pub fn captures() -> Vec<Capture> {
+    let mut draws = Draws::from_seed(SEED);
+    let long =
+        LONG.map(|(n, mask, w, steps)| draw(&mut draws, COMMON, Settings { n, mask, w }, steps));
+    let mut captures = long.to_vec();
+    captures.extend((0..SHORT).map(|_| {
+        let steps = usize::from(draws.below(SHORT_BELOW));
+        draw_of_any_settings(&mut draws, COMMON, steps)
+    }));
+    captures
+}
+
+pub fn draw_of_any_settings(draws: &mut Draws, habit: Habit, steps: usize) -> Capture {
+    let settings = draw_settings(draws);
+    draw(draws, habit, settings, steps)
+}
+
+pub fn draw(draws: &mut Draws, habit: Habit, settings: Settings, steps: usize) -> Capture {
+    let mut run = Run {
+        draws,
+        habit,
+        record: settings.fresh(),
+        conditions: vec![0; usize::from(settings.n) + 1],
+    };
+    let rows: Vec<Row> = (0..steps).map(|_| run.step()).collect();
+    Capture::new(settings, rows)
+}
+
+/// Small groups come up in half of the runs: there the judge tries everything.
+pub fn draw_settings(draws: &mut Draws) -> Settings {
+    let most = draws.pick(&[3, 14]);
+    let n = 1 + draws.byte_below(most);
+    let all = (1 << n) - 1;
+    let some = draws.below(1 << n);
+    Settings {
+        n,
+        mask: draws.pick(&[0, all, some, some]),
+        w: draws.pick(&WAITS),
+    }
+}
+
+/// A run between two steps.
+struct Run<'a> {
+    draws: &'a mut Draws,
+    habit: Habit,
+    record: Record,
+    conditions: Vec<u8>,
+}
+
+impl Run<'_> {
+    fn step(&mut self) -> Row {
+        let received = self.draw_received();
+        self.draw_conditions();
+        let (command, channel) = self.draw_command();
+        let [k1, k2] = received;
+        let answer = controller::step(self.record, k1, k2, &self.conditions, command, channel);
+        self.record = answer.record;
+        row(received, [answer.k1, answer.k2])
+    }
+
+    /// Mostly what an end at the other side could say to what was sent last.
+    fn draw_received(&mut self) -> [u8; 2] {
+        let Record { n, sent, .. } = self.record;
+        if self.draws.below(16) < self.habit.unusable {
+            return pairs::draw_unusable(self.draws, n);
+        }
+        let answered = channel_of(sent);
+        match self.draws.below(8) {
+            0 | 1 => pairs::IDLE,
+            2 | 3 => said(Request::Reverse, answered, answered),
+            4 => self.record.accepted,
+            5 => self.draw_better(),
+            _ => pairs::draw_usable(self.draws, n),
+        }
+    }
+
+    /// Better than most of what is asked for here.
+    fn draw_better(&mut self) -> [u8; 2] {
+        let section = 1 + self.draws.byte_below(self.record.n);
+        let (request, channel) = self.draws.pick(&[
+            (Request::Lockout, 0),
+            (Request::SignalFailHigh, 0),
+            (Request::ForcedSwitch, section),
+            (Request::SignalFailHigh, section),
+        ]);
+        said(request, channel, self.draws.pick(&[0, channel]))
+    }
+
+    /// Conditions last for a while and are often good again at once, so that
+    /// waits come up.
+    fn draw_conditions(&mut self) {
+        let draws = &mut *self.draws;
+        match draws.below(8) {
+            0..4 => {}
+            4..6 => self.conditions.fill(0),
+            6 => {
+                self.conditions.fill(0);
+                let section = draws.place(self.conditions.len());
+                self.conditions[section] = draws.pick(&[1, 2]);
+            }
+            _ => self
+                .conditions
+                .fill_with(|| draws.pick(&[0, 0, 0, 0, 1, 2])),
+        }
+        if draws.below(16) < self.habit.dark {
+            self.conditions[0] = 2;
+        }
+    }
+
+    fn draw_command(&mut self) -> (u8, u8) {
+        let Habit {
+            clear,
+            lockout,
+            switch,
+            ..
+        } = self.habit;
+        let section = 1 + self.draws.byte_below(self.record.n);
+        let drawn = self.draws.below(16);
+        if drawn < clear {
+            (1, 0)
+        } else if drawn < clear + lockout {
+            (2, 0)
+        } else if drawn < clear + lockout + switch {
+            (self.draws.pick(&[3, 4]), section)
+        } else {
+            (0, 0)
+        }
+    }
+}
+
+#[cfg(test)]
+mod tests {
+    use super::*;
+    use std::collections::BTreeMap;
+
+    /// The long runs alone have more steps, so they are left out.
+    #[test]
+    fn short_runs_come_by_every_request_in_every_group() {
+        let mut seen = BTreeMap::new();
+        let captures = captures();
+        for capture in &captures[LONG.len()..] {
+            for [_, _, k1, _] in &capture.rows {
+                *seen.entry((capture.settings.n, k1 >> 4)).or_insert(0) += 1;
+            }
+        }
+        for n in 1..=14 {
+            for request in Request::ALL {
+                let times = seen.get(&(n, request.code())).copied().unwrap_or(0);
+                assert!(times >= 20, "{n} {request:?} {times}");
+            }
+        }
+    }
+
+    #[test]
+    fn runs_are_of_every_length_that_is_meant() {
+        let captures = captures();
+        assert_eq!(captures.len(), LONG.len() + SHORT);
+        assert_eq!(captures[0].rows.len(), LONGEST);
+        let steps = captures[LONG.len()..].iter().map(|run| run.rows.len());
+        assert_eq!(steps.clone().min(), Some(0));
+        assert_eq!(steps.max(), Some(40));
+    }
+}

@@ -1,0 +1,157 @@
+//! The judge (paper: "The judge"), as the order's demand 3 words it.
+//!
+//! A capture is explained when some causes, one for each step, make the
+//! controller send what was captured. So every cause is tried on every record
+//! that the causes before it can have led to. Nothing is left out because it could
+//! not matter, and nothing is worked out backwards from the bytes: this is there
+//! to check a judge that is quicker.
+
+pub mod table;
+
+use crate::book::{MOST_BYTES, STEP_BYTES};
+use crate::controller::{self, Record};
+
+/// A captured step: the pair received, then the pair sent (paper: "The judge").
+pub type Row = [u8; STEP_BYTES];
+
+/// Refusals 8 and 9. The two before them are those of a fresh record.
+const NOT_WHOLE_STEPS: u8 = 8;
+const TOO_LONG: u8 = 9;
+
+/// The greatest group of which every set of conditions is tried. In larger ones
+/// at most one section is bad at a time; that this makes no difference is tested
+/// where both can be done.
+const MOST_SECTIONS_AT_ONCE: u8 = 3;
+
+#[derive(Clone, Copy, Debug, PartialEq, Eq)]
+pub enum Verdict {
+    /// With the number of steps.
+    Explained(usize),
+    /// With the first step, from 0, such that the steps up to and with it have
+    /// no explanation.
+    Unexplained(usize),
+    /// With the paper's number for it.
+    Refused(u8),
+}
+
+pub fn judge(n: u8, mask: u16, wait: u16, capture: &[u8]) -> Verdict {
+    match admit(n, mask, wait, capture) {
+        Ok((start, rows)) => explain(start, rows, &causes(n)),
+        Err(number) => Verdict::Refused(number),
+    }
+}
+
+/// The order of the checks is the paper's: 1, 2, 8, 9.
+fn admit(n: u8, mask: u16, wait: u16, capture: &[u8]) -> Result<(Record, &[Row]), u8> {
+    let start = controller::fresh(n, mask, wait).map_err(controller::Refusal::number)?;
+    let (rows, []) = capture.as_chunks() else {
+        return Err(NOT_WHOLE_STEPS);
+    };
+    if capture.len() > MOST_BYTES {
+        return Err(TOO_LONG);
+    }
+    Ok((start, rows))
+}
+
+fn explain(start: Record, rows: &[Row], causes: &[Cause]) -> Verdict {
+    let mut reached = vec![start];
+    for (step, &row) in rows.iter().enumerate() {
+        reached = reached_by(&reached, row, causes);
+        if reached.is_empty() {
+            return Verdict::Unexplained(step);
+        }
+    }
+    Verdict::Explained(rows.len())
+}
+
+/// All records, each once, that a captured step can have led to. Two causes may
+/// part them for good: under LO a failed section 0 does not show (paper: "Errors
+/// a good reader makes").
+fn reached_by(before: &[Record], row: Row, causes: &[Cause]) -> Vec<Record> {
+    let outcomes = before.iter().flat_map(|&record| {
+        causes
+            .iter()
+            .filter_map(move |cause| cause.outcome(record, row))
+    });
+    let mut reached = Vec::new();
+    for record in outcomes {
+        if !reached.contains(&record) {
+            reached.push(record);
+        }
+    }
+    reached
+}
+
+/// What the judge cannot see of a step. It holds one command, so a clear and a
+/// new one are never given together (paper: "Errors a good reader makes").
+struct Cause {
+    conditions: Vec<u8>,
+    command: u8,
+    channel: u8,
+}
+
+impl Cause {
+    /// The record that is left, if the step is not refused and sends precisely
+    /// what was captured.
+    fn outcome(&self, record: Record, row: Row) -> Option<Record> {
+        let [k1, k2, sent @ ..] = row;
+        let answer = controller::step(record, k1, k2, &self.conditions, self.command, self.channel);
+        let fits = answer.refusal == 0 && [answer.k1, answer.k2] == sent;
+        fits.then_some(answer.record)
+    }
+}
+
+fn causes(n: u8) -> Vec<Cause> {
+    if n <= MOST_SECTIONS_AT_ONCE {
+        with_commands(n, &all_conditions(n))
+    } else {
+        with_commands(n, &one_bad_section(n))
+    }
+}
+
+fn with_commands(n: u8, sets: &[Vec<u8>]) -> Vec<Cause> {
+    let commands = commands(n);
+    let with = |conditions: &Vec<u8>| {
+        let conditions = conditions.clone();
+        commands.iter().map(move |&(command, channel)| Cause {
+            conditions: conditions.clone(),
+            command,
+            channel,
+        })
+    };
+    sets.iter().flat_map(with).collect()
+}
+
+/// The commands that are not refused (paper: refusals 6 and 7), with their
+/// channels: none, clear, LO, and FS and MS of each section.
+fn commands(n: u8) -> Vec<(u8, u8)> {
+    let switches = (1..=n).flat_map(|channel| [(3, channel), (4, channel)]);
+    [(0, 0), (1, 0), (2, 0)]
+        .into_iter()
+        .chain(switches)
+        .collect()
+}
+
+/// Every section good, degraded or failed: the numbers below 3^(n+1), digit by
+/// digit.
+fn all_conditions(n: u8) -> Vec<Vec<u8>> {
+    let sections = u32::from(n) + 1;
+    let digit = |number: u32, place| (number / 3u32.pow(place) % 3) as u8;
+    (0..3u32.pow(sections))
+        .map(|number| (0..sections).map(|place| digit(number, place)).collect())
+        .collect()
+}
+
+fn one_bad_section(n: u8) -> Vec<Vec<u8>> {
+    let good = vec![0; usize::from(n) + 1];
+    let bad = (0..good.len()).flat_map(|section| [(section, 1), (section, 2)]);
+    let sets = bad.map(|(section, condition)| {
+        let mut conditions = good.clone();
+        conditions[section] = condition;
+        conditions
+    });
+    std::iter::once(good.clone()).chain(sets).collect()
+}
+
+#[cfg(test)]
+mod tests;
