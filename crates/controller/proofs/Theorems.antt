@@ -27,6 +27,14 @@ use Rattle.controller.proofs.Controller.fresh.Kinds as fresh-kinds
 use Rattle.controller.proofs.Controller.fresh.Reads as fresh-fn
 use Rattle.controller.proofs.Controller.fresh.Statement as fresh-statement
 use Rattle.controller.proofs.Controller.fresh.Met as fresh-met
+use Rattle.controller.proofs.asked.asked.Kinds as asked-kinds
+use Rattle.controller.proofs.asked.asked.Reads as asked-fn
+use Rattle.controller.proofs.command.held.Kinds as held-kinds
+use Rattle.controller.proofs.command.held.Reads as held-fn
+use Rattle.controller.proofs.section.condition.Kinds as condition-kinds
+use Rattle.controller.proofs.section.condition.Reads as condition-fn
+use Rattle.controller.proofs.wait.wait_of.Kinds as wait-of-kinds
+use Rattle.controller.proofs.wait.wait_of.Reads as wait-of-fn
 use Rattle.controller.proofs.Controller.step.Kinds as step-kinds
 use Rattle.controller.proofs.Controller.step.Reads as step-fn
 use Rattle.controller.proofs.Controller.step.Statement as step-statement
@@ -46,6 +54,18 @@ fresh-unique κs args x y s t p q = one-case p q
 
 step-unique : OneAnswer 1 step-kinds.ps step-kinds.r step-fn.Post
 step-unique κs args x y s t p q = one-value p q
+
+asked-unique : OneAnswer 0 asked-kinds.ps asked-kinds.r asked-fn.Post
+asked-unique κs args x y s t p q = one-value p q
+
+held-unique : OneAnswer 0 held-kinds.ps held-kinds.r held-fn.Post
+held-unique κs args x y s t p q = one-value p q
+
+condition-unique : OneAnswer 0 condition-kinds.ps condition-kinds.r condition-fn.Post
+condition-unique κs args x y s t p q = one-value p q
+
+wait-of-unique : OneAnswer 0 wait-of-kinds.ps wait-of-kinds.r wait-of-fn.Post
+wait-of-unique κs args x y s t p q = one-value p q
 
 -- The refusals come in the paper's order: a step has refusal i + 1 exactly if the fault at place i is its first, and none
 -- exactly if there is no fault. A refused step answers zeros and the given record.

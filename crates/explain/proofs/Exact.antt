@@ -9,7 +9,7 @@ use native.Mathlib.Numerals.{add-one}
 use native.Mathlib.Omega.{arith}
 use lib.Dec.{ltb, eqb}
 use lib.ListN.{length, take}
-use lib.Seq.{take-take}
+use lib.Seq.{take-all, take-take}
 use borrow.Author.Tests.{ltb-true, ltb-false}
 use Rattle.basics.specs.Choice.{if_then_else_}
 use Rattle.basics.specs.First.{firstOf}
@@ -21,7 +21,7 @@ use Rattle.explain.specs.Capture.{Row, rowsOf}
 use Rattle.explain.specs.Explained.{Cause, stepped, Sends, Explains, Explained}
 use Rattle.explain.specs.Verdict.{Judging, explainedAt, unexplainedAt, told, faults, Found, Right}
 use Rattle.explain.specs.Scan.{Scanned, all, first, scanFrom}
-use Rattle.explain.specs.Trace.{start, live, next, verdictOf, scanned}
+use Rattle.explain.specs.Trace.{start, live, next, verdictOf}
 use Rattle.explain.specs.declared.Records.{Records}
 use Rattle.explain.specs.declared.Verdict.{Verdict}
 use Rattle.explain.specs.declared.Verdict.the-variants as verdict
@@ -131,6 +131,55 @@ module _ (n mask w : ℕ) where
           let p = rw e at h in
           let q = rw e at h′ in
           p ∙ sym q
+
+module _ (n mask w : ℕ) (bytes : List ℕ) (j : Judging) (right : Right n mask w bytes j)
+    (none : firstOf (faults n mask (length bytes)) ≡ 0) where
+  abbrev rows : List Row
+  rows = rowsOf bytes
+
+  found : Found n mask w rows j
+  unfolding Right
+  found = rw none at right
+
+  pub explained-exact : (j ≡ explainedAt (length rows)) ↔ Explained n mask w rows
+  explained-exact = (forward, λ some. found-one n mask w rows j (explainedAt (length rows)) found (inl (refl, some)))
+    where
+      forward : j ≡ explainedAt (length rows) → Explained n mask w rows
+      forward e =
+          ⊎-elim (λ h. h .1)
+          (λ h.
+          let two : _≡_ {A = ℕ} 1 2 = ap (λ (k : Judging). k .verdict) (sym e ∙ h .1) in
+          absurd (omega arith)) found
+
+  pub unexplained-exact : (i : ℕ)
+      → (j ≡ unexplainedAt i) ↔ (Explained n mask w (take i rows) × (Explained n mask w (take (i + 1) rows) → ⊥))
+  unexplained-exact i = (
+    forward,
+    λ h. found-one n mask w rows j (unexplainedAt i) found (inr (i, refl, h .0, h .1)),
+  )
+    where
+      forward : j ≡ unexplainedAt i → Explained n mask w (take i rows) × (Explained n mask w (take (i + 1) rows) → ⊥)
+      forward e =
+          ⊎-elim
+          (λ h.
+          let two : _≡_ {A = ℕ} 2 1 = ap (λ (k : Judging). k .verdict) (sym e ∙ h .0) in
+          absurd (omega arith))
+          (λ h.
+          let same : h .0 ≡ i = ap (λ (k : Judging). k .at) (sym (h .1) ∙ e) in
+          subst (λ (m : ℕ). Explained n mask w (take m rows) × (Explained n mask w (take (m + 1) rows) → ⊥)) same
+          (h .2, h .3)) found
+
+-- past the last step nothing changes
+pub first-within : (n mask w : ℕ) (rows : List Row) (i : ℕ) → Explained n mask w (take i rows)
+    → (Explained n mask w (take (i + 1) rows) → ⊥) → i < length rows
+first-within n mask w rows i some none = go (ltb i (length rows)) refl
+  where
+    go : (t : Bool) → ltb i (length rows) ≡ t → i < length rows
+    go true e = ltb-true i (length rows) e
+    go false e =
+        let past = ltb-false i (length rows) e in
+        let further : length rows ≤ i + 1 = omega arith in
+        absurd (none (subst (Explained n mask w) (take-all i rows past ∙ sym (take-all (i + 1) rows further)) some))
 
 -- the numbers decide the case of the enum
 abbrev caseOf : Judging → Verdict

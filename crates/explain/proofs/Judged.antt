@@ -1,16 +1,17 @@
 -- The judge's refusals, and its verdict where there is none.
-use mathlib.Core.Path.{_≡_, refl, sym, ap, subst, _∙_}
-use mathlib.Core.Bool.{true, false, not}
+use mathlib.Core.Path.{_≡_, refl, sym, subst, _∙_}
+use mathlib.Core.Bool.{Bool, true, false}
 use mathlib.Core.List.{List}
 use Prim.Native.Nat.{ℕ, _%_, _≤_}
-use lib.Dec.{ltb, eqb}
+use lib.Dec.{eqb}
 use lib.ListN.{length}
-use borrow.Author.Tests.{eqb-true, ltb-false, ne-eqb, not-false}
+use borrow.Author.Tests.{eqb-true, eqb-false, ltb-false, ne-eqb, not-false}
 use Rattle.basics.specs.Choice.{if_then_else_}
 use Rattle.basics.specs.First.{firstOf}
-use Rattle.basics.proofs.First.{none-exact, first-behind, first-before}
+use Rattle.basics.proofs.First.{none-exact, none-both, first-behind, first-before}
 use Rattle.pair.specs.Coder.{sectionsFit}
 use Rattle.controller.specs.Settings.{maskFits, fresh, settingsFaults}
+use Rattle.controller.proofs.Inputs.{settings-fit}
 use Rattle.explain.specs.Capture.{rowsOf}
 use Rattle.explain.specs.Verdict.{Judging, refusedBy, sizeFaults, faults, most, Right}
 use Rattle.explain.specs.Trace.{scanned}
@@ -50,3 +51,19 @@ module _ (n mask w : ℕ) (bytes : List ℕ) where
     pub scanned-right : firstOf (sizeFaults (length bytes)) ≡ 0 → Right n mask w bytes (scanned (fresh n mask w) bytes)
     unfolding Right
     scanned-right none = rw (behind, none) (scan-right n mask w fits mask-fits (rowsOf bytes))
+
+  pub right-refused : (j : Judging) → Right n mask w bytes j → (refusal ≡ 0 → ⊥) → j ≡ refusedBy refusal
+  unfolding Right
+  right-refused j right some = rw (ne-eqb refusal 0 some) at right
+
+  -- there is a right answer
+  pub right-some : (j : Judging) × Right n mask w bytes j
+  right-some = go (eqb refusal 0) refl
+    where
+      go : (t : Bool) → eqb refusal 0 ≡ t → (j : Judging) × Right n mask w bytes j
+      go true e =
+          let none = eqb-true refusal 0 e in
+          let parts = none-both (settingsFaults n mask) (sizeFaults (length bytes)) refl none in
+          let fits = settings-fit n mask (parts .0) in
+          (scanned (fresh n mask w) bytes, scanned-right (fits .0) (fits .1) (parts .1))
+      go false e = (refusedBy refusal, refused-right (eqb-false refusal 0 e))

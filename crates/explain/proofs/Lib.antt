@@ -11,3 +11,4 @@ mod Exact
 mod Walking
 mod Judged
 mod Computed
+mod Theorems

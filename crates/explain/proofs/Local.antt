@@ -1,30 +1,29 @@
 -- Which local requests arise: some conditions and some command make it the local request exactly if the closed form holds of
 -- it. Forward by the source of the request; backward by a witness of at most one bad section and one command.
 use mathlib.Core.Path.{_≡_, refl, sym, ap, subst, _∙_}
-use mathlib.Core.Bool.{Bool, true, false, not, _&&_, _||_, and-eq-true-iff, false≢true, true≢false}
-use mathlib.Core.List.{List, [], _∷_, _++_}
-use mathlib.Core.Logic.{_↔_, _⊎_, inl, inr, ⊎-elim}
+use mathlib.Core.Bool.{Bool, true, false, not, _&&_, _||_, and-eq-true-iff, false≢true}
+use mathlib.Core.List.{List, [], _∷_}
+use mathlib.Core.Logic.{_⊎_, inl, inr, ⊎-elim}
 use Prim.Native.Nat.{ℕ, suc, _+_, _≤_, _<_, zero-le}
 use native.Mathlib.Nat.{zero-add}
 use native.Mathlib.Omega.{arith}
 use lib.Dec.{ltb, leb, eqb, lit<, lit≤}
 use lib.ListN.{length, drop}
-use borrow.Author.Tests.{ltb-true, ltb-false, leb-true, eqb-true, eqb-false, lt-ltb, le-ltb, le-leb, eq-eqb, ne-eqb}
+use borrow.Author.Tests.{leb-true, eqb-true, lt-ltb, le-ltb, le-leb, ne-eqb}
 use Rattle.basics.specs.Choice.{if_then_else_}
 use Rattle.pair.specs.Request.{requests, carries, channel-0, a-section, rankIn, rankOf}
 use Rattle.pair.proofs.Rows.{heldIn, carried-within}
 use Rattle.request.specs.Order.{byRank, OneOf}
-use Rattle.request.specs.Command.{replaces}
 use Rattle.request.specs.Wait.{waitNow}
 use Rattle.request.specs.declared.Request.{Request}
-use Rattle.request.proofs.Order.{or-true, or-right, one-split, one-joined}
+use Rattle.request.proofs.Order.{or-true, one-split, one-joined}
 use Rattle.controller.specs.Settings.{high}
-use Rattle.controller.specs.Rules.{request, lockout, forced, manual, waitToRestore, noRequest, rankOfRequest}
+use Rattle.controller.specs.Rules.{request, noRequest, rankOfRequest}
 use Rattle.controller.specs.Rules.{isCommand, held, isClear, kept, given, taken, standing, condition, conditionsFrom}
 use Rattle.controller.specs.Rules.{isFailOrDegrade, isWait, entersWait, waiting, candidates, localRequest, same}
 use Rattle.controller.specs.Refusals.{conditionsFit, channelFits}
 use Rattle.controller.specs.Step.{protection}
-use Rattle.controller.proofs.Candidates.{local-one, local-above, local-top}
+use Rattle.controller.proofs.Candidates.{local-one, local-top}
 use Rattle.explain.specs.Cause.{commanded, conditioned, waited, arises, unseen}
 use Rattle.explain.proofs.Ranking.{above, none-rank, wins, section-rank, on-section, on-protection, rank-cases}
 use Rattle.explain.proofs.Ranking.{fail-rank, degrade-rank}

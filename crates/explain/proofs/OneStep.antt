@@ -1,18 +1,18 @@
 -- One step: the closed form holds of what is sent exactly if some cause makes the controller send it, with the command held
 -- before the step and the one held after it set apart, for every n and mask.
 use mathlib.Core.Path.{_≡_, refl, sym, ap, subst, _∙_}
-use mathlib.Core.Bool.{Bool, true, false, not, _&&_, _||_, and-eq-true-iff}
+use mathlib.Core.Bool.{Bool, true, false, not, _&&_, and-eq-true-iff}
 use mathlib.Core.List.{List}
-use mathlib.Core.Logic.{_↔_, inl, inr, ⊎-elim}
-use Prim.Native.Nat.{ℕ, _<_}
-use lib.Dec.{ltb, eqb}
-use borrow.Author.Tests.{ltb-true, eqb-true, lt-ltb, eq-eqb, not-true}
+use mathlib.Core.Logic.{_↔_, ⊎-elim}
+use Prim.Native.Nat.{ℕ}
+use lib.Dec.{eqb}
+use borrow.Author.Tests.{ltb-true, eqb-true, eq-eqb, not-true}
 use Rattle.basics.specs.Choice.{if_then_else_}
 use Rattle.pair.specs.Request.{requests, carries, rankOf}
 use Rattle.request.specs.Order.{mayWin, byRank}
 use Rattle.request.specs.declared.Request.{Request}
 use Rattle.request.proofs.Order.{or-true, or-right}
-use Rattle.controller.specs.Rules.{reverse, noRequest, rankOfRequest, held, decided}
+use Rattle.controller.specs.Rules.{noRequest, rankOfRequest, held, decided}
 use Rattle.controller.specs.Step.{protection}
 use Rattle.controller.proofs.Candidates.{none-loses}
 use Rattle.explain.specs.Cause.{arises, unseen, answers}

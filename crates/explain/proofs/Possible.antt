@@ -1,5 +1,5 @@
 -- The two flags hold the set of records that some causes can have reached, no more and no less.
-use mathlib.Core.Path.{_≡_, refl, sym, ap, subst, _∙_}
+use mathlib.Core.Path.{_≡_, refl, sym, subst}
 use mathlib.Core.Bool.{Bool, true, false, _&&_, _||_, and-eq-true-iff, false≢true}
 use mathlib.Core.Logic.{_↔_, _⊎_, inl, inr, ⊎-elim}
 use Prim.Native.Nat.{ℕ}
@@ -37,6 +37,11 @@ live-in d = (forward, backward)
 module _ (d : Records) (r : Row) where
   abbrev base : Controller
   base = d .controller
+
+  -- it with a pair accepted
+  abbrev holding : ℕ → ℕ → Controller
+  holding k1 k2 =
+      record { n = base .n; mask = base .mask; w = base .w; k1 = k1; k2 = k2; sent = base .sent; left = base .left }
 
   abbrev x : Request
   x = asked (r .sentK1)
@@ -87,51 +92,45 @@ module _ (d : Records) (r : Row) where
     abbrev From : Controller → Type 0
     From u = (s : Controller) × (c : Cause) × In d s × Sends (stepped s c r) r × (u ≡ stepped s c r .controller)
 
-    bring : (s : Controller) (i : In d s) (u : Controller) → Reached s r (good s i) u → From u
-    bring s i u h = let some = reached-sends s r (good s i) u h in (s, some .0, i, some .1, some .2)
-
-    -- by a failed section 0, from any record that is left
-    by-hidden : (s : Controller) → In d s → sendable ≡ true → hidden ≡ true → (u : Controller)
-        → u ≡ after idleK1 idleK2 → From u
-    by-hidden s (inl (e, is)) fits h u k = bring s (inl (e, is)) u (rw is (fits, inl (h, k)))
-    by-hidden s (inr (e, is)) fits h u k = bring s (inr (e, is)) u (rw is (fits, inl (h, k)))
-
     abbrev standing : Bool → ℕ → ℕ → ℕ
     standing t received before = if t then received else before
 
-    -- by the pair that stands, from the record with the last usable pair, or from the one with 00 08
-    from-heard : (e : d .heard ≡ true) (t : Bool) → usable ≡ t → sendable ≡ true → (u : Controller) →
-        let k1 = standing t (r .k1) (base .k1) in
-        opened k1 ≡ true → u ≡ after k1 (standing t (r .k2) (base .k2)) → From u
-    from-heard e t f fits u h k =
-        let i : In d base = inl (e, refl) in
-        let stood = far-standing base r (good base i) t f in
-        bring base i u (fits, inr (rw (stood .0, stood .1) (h, k)))
+    bring : (s : Controller) (i : In d s) (u : Controller) → Reached s r (good s i) u → From u
+    bring s i u h = let some = reached-sends s r (good s i) u h in (s, some .0, i, some .1, some .2)
 
-    from-idle : (e : d .idle ≡ true) (t : Bool) → usable ≡ t → sendable ≡ true → (u : Controller) →
-        let k1 = standing t (r .k1) idleK1 in
-        opened k1 ≡ true → u ≡ after k1 (standing t (r .k2) idleK2) → From u
-    from-idle e t f fits u h k =
-        let i : In d (idled base) = inr (e, refl) in
-        let stood = far-standing (idled base) r (good (idled base) i) t f in
-        bring (idled base) i u (fits, inr (rw (stood .0, stood .1) (h, k)))
+    -- by a failed section 0, whatever was accepted before
+    by-hidden : (k1 k2 : ℕ) → In d (holding k1 k2) → sendable ≡ true → hidden ≡ true → (u : Controller)
+        → u ≡ after idleK1 idleK2 → From u
+    by-hidden k1 k2 i fits h u k = bring (holding k1 k2) i u (fits, inl (h, k))
+
+    -- by the pair that stands, where k1 k2 was accepted before
+    by-standing : (k1 k2 : ℕ) → In d (holding k1 k2) → (t : Bool) → usable ≡ t → sendable ≡ true → (u : Controller)
+        → opened (standing t (r .k1) k1) ≡ true → u ≡ after (standing t (r .k1) k1) (standing t (r .k2) k2) → From u
+    by-standing k1 k2 i t f fits u h k =
+        let s = holding k1 k2 in
+        let stood = far-standing s r (good s i) t f in
+        bring s i u (fits, inr (rw (stood .0, stood .1) (h, k)))
+
+    -- some record is left
+    from-some : live d ≡ true → {u : Controller} → ((k1 k2 : ℕ) → In d (holding k1 k2) → From u) → From u
+    from-some alive from =
+        ⊎-elim (λ e. from (base .k1) (base .k2) (inl (e, refl))) (λ e. from idleK1 idleK2 (inr (e, refl)))
+        (or-true (d .heard) (d .idle) alive)
 
     into-taken : live d ≡ true → sendable ≡ true → usable ≡ true → (u : Controller) → In taken u → From u
-    into-taken alive fits f u (inl (h, k)) =
-        ⊎-elim (λ e. from-heard e true f fits u h k) (λ e. from-idle e true f fits u h k)
-        (or-true (d .heard) (d .idle) alive)
-    into-taken alive fits f u (inr (h, k)) =
-        let some = live-in d .0 alive in by-hidden (some .0) (some .1) fits h u k
+    into-taken alive fits f u (inl (h, k)) = from-some alive (λ k1 k2 i. by-standing k1 k2 i true f fits u h k)
+    into-taken alive fits f u (inr (h, k)) = from-some alive (λ k1 k2 i. by-hidden k1 k2 i fits h u k)
 
     into-kept : live d ≡ true → sendable ≡ true → usable ≡ false → (u : Controller) → In kept u → From u
     into-kept alive fits f u (inl (h, k)) =
-        let both = and-eq-true-iff (d .heard) (opened (base .k1)) .0 h in from-heard (both .0) false f fits u (both .1) k
+        let both = and-eq-true-iff (d .heard) (opened (base .k1)) .0 h in
+        by-standing (base .k1) (base .k2) (inl (both .0, refl)) false f fits u (both .1) k
     into-kept alive fits f u (inr (h, k)) =
         ⊎-elim
         (λ e.
-        let both = and-eq-true-iff (d .idle) (opened idleK1) .0 e in from-idle (both .0) false f fits u (both .1) k)
-        (λ e. let some = live-in d .0 alive in by-hidden (some .0) (some .1) fits e u k)
-        (or-true (d .idle && opened idleK1) hidden h)
+        let both = and-eq-true-iff (d .idle) (opened idleK1) .0 e in
+        by-standing idleK1 idleK2 (inr (both .0, refl)) false f fits u (both .1) k)
+        (λ e. from-some alive (λ k1 k2 i. by-hidden k1 k2 i fits e u k)) (or-true (d .idle && opened idleK1) hidden h)
 
     -- what a row that is sent leaves, by whether the received pair is usable
     abbrev behind : Bool → Records
@@ -141,35 +140,36 @@ module _ (d : Records) (r : Row) where
     hidden-in true u h k = inr (h, k)
     hidden-in false u h k = inr (rw h (or-right (d .idle && opened idleK1) true refl), k)
 
-    heard-in : (t : Bool) (u : Controller) → d .heard ≡ true →
-        let k1 = standing t (r .k1) (base .k1) in
-        opened k1 ≡ true → u ≡ after k1 (standing t (r .k2) (base .k2)) → In (behind t) u
+    -- the flag that a record is left by goes on
+    heard-in : (t : Bool) (u : Controller) → d .heard ≡ true → opened (standing t (r .k1) (base .k1)) ≡ true
+        → u ≡ after (standing t (r .k1) (base .k1)) (standing t (r .k2) (base .k2)) → In (behind t) u
     heard-in true u e h k = inl (h, k)
     heard-in false u e h k = inl (rw (e, h), k)
 
-    idle-in : (t : Bool) (u : Controller) → d .idle ≡ true →
-        let k1 = standing t (r .k1) idleK1 in
-        opened k1 ≡ true → u ≡ after k1 (standing t (r .k2) idleK2) → In (behind t) u
+    idle-in : (t : Bool) (u : Controller) → d .idle ≡ true → opened (standing t (r .k1) idleK1) ≡ true
+        → u ≡ after (standing t (r .k1) idleK1) (standing t (r .k2) idleK2) → In (behind t) u
     idle-in true u e h k = inl (h, k)
     idle-in false u e h k = inr (rw (e, h), k)
 
-    out-of : (t : Bool) → usable ≡ t → (u : Controller) (from : From u) → (sendable ≡ true) × In (behind t) u
+    -- what is known of a record behind the row, where k1 k2 was accepted before
+    read-off : (k1 k2 : ℕ) (s : Controller) → In d s → s ≡ holding k1 k2 → (c : Cause) → Sends (stepped s c r) r
+        → (u : Controller) → u ≡ stepped s c r .controller → (t : Bool) → usable ≡ t
+        → (opened (standing t (r .k1) k1) ≡ true → u ≡ after (standing t (r .k1) k1) (standing t (r .k2) k2)
+        → In (behind t) u)
+        → (sendable ≡ true) × In (behind t) u
+    read-off k1 k2 s i is c sends u k t f stays =
+        let reached = rw (← k) at (sends-reached s r (good s i) c sends) in
+        let stood = far-standing s r (good s i) t (rw is f) in (
+          rw is at (reached .0),
+          ⊎-elim (λ h. hidden-in t u (rw is at (h .0)) (rw is at (h .1)))
+              (λ h. stays (rw (stood .0, is) at (h .0)) (rw (stood .0, stood .1, is) at (h .1))) (reached .1),
+        )
+
+    out-of : (t : Bool) → usable ≡ t → (u : Controller) → From u → (sendable ≡ true) × In (behind t) u
     out-of t f u (s, c, inl (e, is), sends, k) =
-        let i : In d s = inl (e, is) in
-        let reached = rw (← k) at (sends-reached s r (good s i) c sends) in
-        let stood = far-standing s r (good s i) t (rw is f) in (
-          rw is at (reached .0),
-          ⊎-elim (λ h. hidden-in t u (rw is at (h .0)) (rw is at (h .1)))
-              (λ h. heard-in t u e (rw (stood .0, is) at (h .0)) (rw (stood .0, stood .1, is) at (h .1))) (reached .1),
-        )
+        read-off (base .k1) (base .k2) s (inl (e, is)) is c sends u k t f (heard-in t u e)
     out-of t f u (s, c, inr (e, is), sends, k) =
-        let i : In d s = inr (e, is) in
-        let reached = rw (← k) at (sends-reached s r (good s i) c sends) in
-        let stood = far-standing s r (good s i) t (rw is f) in (
-          rw is at (reached .0),
-          ⊎-elim (λ h. hidden-in t u (rw is at (h .0)) (rw is at (h .1)))
-              (λ h. idle-in t u e (rw (stood .0, is) at (h .0)) (rw (stood .0, stood .1, is) at (h .1))) (reached .1),
-        )
+        read-off idleK1 idleK2 s (inr (e, is)) is c sends u k t f (idle-in t u e)
 
     -- exactly the records that some cause leaves
     pub next-in : (u : Controller) → live d ≡ true → In (next d r) u ↔ From u

@@ -1,10 +1,10 @@
 -- Ranks and channels of requests by their codes, as the table has them.
 use mathlib.Core.Path.{_≡_, refl, sym, ap, _∙_}
-use mathlib.Core.Bool.{Bool, true, false, _&&_, _||_, and-eq-true-iff, false≢true}
+use mathlib.Core.Bool.{Bool, true, false, and-eq-true-iff, false≢true}
 use Prim.Native.Nat.{ℕ, _≤_, _<_}
 use native.Mathlib.Omega.{arith}
-use lib.Dec.{ltb, leb, eqb, lit<, lit≤}
-use borrow.Author.Tests.{ltb-true, leb-true, eqb-true, eqb-false, lt-ltb, ne-eqb}
+use lib.Dec.{leb, eqb, lit<}
+use borrow.Author.Tests.{eqb-true, eqb-false, lt-ltb, ne-eqb}
 use Rattle.pair.specs.Request.{requests, carries, channel-0, a-section, rankIn, rankOf}
 use Rattle.pair.proofs.Rows.{heldIn, carries-0, carries-section}
 use Rattle.request.specs.Order.{byRank}

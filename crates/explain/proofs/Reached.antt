@@ -1,38 +1,37 @@
 -- From requests to bytes: the records that a controller can have after a row, by the closed forms over the row's bytes.
 use mathlib.Core.Path.{_≡_, refl, sym, ap, subst, _∙_}
-use mathlib.Core.Bool.{Bool, true, false, not, _&&_, _||_, and-eq-true-iff, false≢true}
-use mathlib.Core.List.{List}
-use mathlib.Core.Logic.{_↔_, _⊎_, inl, inr, ⊎-elim}
-use Prim.Native.Nat.{ℕ, _+_, _*_, _/_, _%_, _≤_, _<_}
+use mathlib.Core.Bool.{Bool, true, false, not, _&&_, and-eq-true-iff}
+use mathlib.Core.Logic.{_⊎_, inl, inr, ⊎-elim}
+use Prim.Native.Nat.{ℕ, _+_, _<_}
 use native.Mathlib.Omega.{arith}
-use lib.Dec.{ltb, leb, eqb}
+use lib.Dec.{eqb}
 use lib.ListN.{length}
-use borrow.Author.Tests.{eqb-true, eqb-false, eq-eqb, ne-eqb, le-leb, not-true, not-false}
+use borrow.Author.Tests.{eqb-true, eq-eqb, le-leb, not-true}
 use Rattle.basics.specs.Choice.{if_then_else_}
 use Rattle.pair.specs.Request.{requests, carries}
-use Rattle.pair.specs.Marks.{codeOf, channelOf, bridgedOf, bit5, lineBits, mark}
-use Rattle.pair.specs.Coder.{sectionsFit, lineOf}
+use Rattle.pair.specs.Marks.{codeOf, channelOf, bridgedOf, lineBits, mark}
+use Rattle.pair.specs.Coder.{sectionsFit}
 use Rattle.pair.proofs.Coding.{UsablePair, unmarked}
 use Rattle.request.specs.Bridge.{bridge}
 use Rattle.request.specs.declared.Request.{Request}
 use Rattle.request.proofs.Channels.{bridge-within}
 use Rattle.controller.specs.Settings.{maskFits, idleK1, idleK2}
-use Rattle.controller.specs.Rules.{noRequest, asked, accepted, accepting, held, isClear, isWait, decided, leftAfter, keepsBridge}
+use Rattle.controller.specs.Rules.{asked, accepted, accepting, held, isClear, isWait, decided, leftAfter, keepsBridge}
 use Rattle.controller.specs.Rules.{k1Of, k2Of}
-use Rattle.controller.specs.Refusals.{acceptable, conditionsFit, channelFits, refusal}
-use Rattle.controller.specs.Step.{protection, waitOf, answering, moved, step}
+use Rattle.controller.specs.Refusals.{acceptable, refusal}
+use Rattle.controller.specs.Step.{protection, waitOf, moved, step}
 use Rattle.controller.specs.declared.Controller.{Controller}
 use Rattle.controller.specs.declared.Outcome.{Outcome}
 use Rattle.controller.proofs.Inputs.{WellFormed, well-formed}
 use Rattle.controller.proofs.Sendable.{Sendable, sendable-room}
-use Rattle.controller.proofs.Sending.{far-usable, sent-sendable}
+use Rattle.controller.proofs.Sending.{sent-sendable}
 use Rattle.controller.proofs.Keeping.{k1-back, not-refused, step-keeps, step-taken}
 use Rattle.explain.specs.Capture.{Row}
 use Rattle.explain.specs.Explained.{Cause, stepped, Sends}
-use Rattle.explain.specs.Cause.{arises, unseen, answers}
+use Rattle.explain.specs.Cause.{unseen, answers}
 use Rattle.explain.specs.Trace.{secondFits, opens, localIn, hiddenIn, recordAfter}
-use Rattle.explain.proofs.Local.{Fits, nowOf, nearOf}
-use Rattle.explain.proofs.OneStep.{Caused, Open, Hidden, one-step, one-hidden-step}
+use Rattle.explain.proofs.Local.{nearOf}
+use Rattle.explain.proofs.OneStep.{Caused, one-step, one-hidden-step}
 
 -- what a run keeps of a record
 pub record Able (s : Controller) : Type 0 where

@@ -8,11 +8,11 @@ use Rattle.basics.specs.Choice.{if_then_else_}
 use Rattle.pair.specs.Marks.{channelOf, bridgedOf, lineBits, mark}
 use Rattle.request.specs.Bridge.{bridge}
 use Rattle.request.specs.declared.Request.{Request}
-use Rattle.controller.specs.Settings.{idleK1, idleK2, fresh}
+use Rattle.controller.specs.Settings.{idleK1, idleK2}
 use Rattle.controller.specs.Rules.{asked, held, leftAfter, keepsBridge}
 use Rattle.controller.specs.Step.{waitOf}
 use Rattle.controller.specs.declared.Controller.{Controller}
-use Rattle.explain.specs.Capture.{Row, row, rowsOf}
+use Rattle.explain.specs.Capture.{Row, rowsOf}
 use Rattle.explain.specs.Cause.{arises, unseen, answers}
 use Rattle.explain.specs.Scan.{Scanned, all, first, scanFrom}
 use Rattle.explain.specs.Verdict.{Judging, explainedAt, unexplainedAt}

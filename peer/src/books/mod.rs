@@ -22,7 +22,9 @@ use report::Report;
 use std::io;
 use std::path::Path;
 
-pub const USUAL_PROGRAM: &str = "target/bin/judge";
+/// The script at the root. It runs `target/bin/judge`, by an emulator where the
+/// machine is not the one that this is compiled for.
+pub const USUAL_PROGRAM: &str = "judge";
 
 /// Books of one sort.
 struct Group {
@@ -72,6 +74,9 @@ pub struct Finding {
 
 /// Compares this reading with a program. The error is that of running it.
 pub fn compare(program: &Path) -> io::Result<Finding> {
+    // On its first use the script builds the program, and says so. That is done
+    // before anything is compared, and by one process.
+    process::run(program, &[])?;
     let jobs = jobs();
     let mut report = Report::new(&GROUPS, &jobs);
     crew::compare_all(program, &jobs, &mut report, &mut io::stderr())?;

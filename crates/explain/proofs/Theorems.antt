@@ -1,0 +1,82 @@
+-- The front door: what is proved of the judge, each theorem in full with the line that cites its proof.
+use mathlib.Core.Path.{_≡_}
+use mathlib.Core.Bool.{true, false}
+use mathlib.Core.List.{List}
+use mathlib.Core.Logic.{_↔_}
+use Prim.Native.Nat.{ℕ, _+_, _<_}
+use lib.ListN.{length, take}
+use Rattle.basics.specs.First.{firstOf}
+use Rattle.basics.proofs.One.{OneAnswer}
+use Rattle.pair.specs.Request.{requests, carries}
+use Rattle.request.specs.declared.Request.{Request}
+use Rattle.controller.specs.Rules.{noRequest}
+use Rattle.explain.specs.Capture.{Row, rowsOf}
+use Rattle.explain.specs.Explained.{Explained}
+use Rattle.explain.specs.Verdict.{Judging, explainedAt, unexplainedAt, refusedBy, faults, Right}
+use Rattle.explain.specs.Lines.{lines, Hold}
+use Rattle.explain.proofs.OneStep.{Caused, Open, Hidden, one-step, one-hidden-step}
+use Rattle.explain.proofs.Exact.{explained-prefix, right-one, told-one, explained-exact, unexplained-exact, first-within}
+use Rattle.explain.proofs.Judged.{right-some, right-refused}
+use Rattle.explain.proofs.Computed.{lines-hold}
+use Rattle.explain.proofs.judge.Kinds as judge-kinds
+use Rattle.explain.proofs.judge.Reads as judge-fn
+use Rattle.explain.proofs.judge.Statement as judge-statement
+use Rattle.explain.proofs.judge.Met as judge-met
+
+-- The judge's verdict is right, for every input: refused by the first number that applies; else explained, with the number
+-- of steps, and some sequence of causes explains them; or unexplained i, and some sequence explains the first i steps and
+-- none the first i + 1. (`statement` is the contract, as the checker reads it off the source.)
+judge-right : {M : Type 1} → judge-statement.statement M
+judge-right = judge-met.met
+
+-- Two verdicts that the promise allows are equal. (`Post` is the function's `ensures`.)
+judge-unique : OneAnswer 1 judge-kinds.ps judge-kinds.r judge-fn.Post
+judge-unique κs args x y s t p q = told-one x y (right-one _ _ _ _ _ _ p q)
+
+-- Every capture has a right answer, whatever its settings and bytes.
+judge-complete : (n mask w : ℕ) (bytes : List ℕ) → (j : Judging) × Right n mask w bytes j
+judge-complete = right-some
+
+-- A capture that is refused has the first refusal for its answer.
+refused-exact : (n mask w : ℕ) (bytes : List ℕ) (j : Judging) →
+    let refusal = firstOf (faults n mask (length bytes)) in
+    Right n mask w bytes j → (refusal ≡ 0 → ⊥) → j ≡ refusedBy refusal
+refused-exact = right-refused
+
+-- One that is not refused: explained is answered exactly if some sequence explains all steps, and unexplained i exactly if
+-- some sequence explains the first i and none the first i + 1.
+verdict-exact : (n mask w : ℕ) (bytes : List ℕ) (j : Judging) → Right n mask w bytes j
+    → firstOf (faults n mask (length bytes)) ≡ 0
+    → (j ≡ explainedAt (length (rowsOf bytes))) ↔ Explained n mask w (rowsOf bytes)
+verdict-exact = explained-exact
+
+first-exact : (n mask w : ℕ) (bytes : List ℕ) (j : Judging) → Right n mask w bytes j
+    → firstOf (faults n mask (length bytes)) ≡ 0 → (i : ℕ)
+    → (j ≡ unexplainedAt i)
+    ↔ (Explained n mask w (take i (rowsOf bytes)) × (Explained n mask w (take (i + 1) (rowsOf bytes)) → ⊥))
+first-exact = unexplained-exact
+
+-- The step that is named is a step of the capture.
+first-there : (n mask w : ℕ) (rows : List Row) (i : ℕ) → Explained n mask w (take i rows)
+    → (Explained n mask w (take (i + 1) rows) → ⊥) → i < length rows
+first-there = first-within
+
+-- What is explained is explained up to each of its steps, so that there is a first step without explanation.
+prefix-closed : (n mask w : ℕ) (rows : List Row) (i : ℕ) → Explained n mask w rows → Explained n mask w (take i rows)
+prefix-closed = explained-prefix
+
+-- One step, section 0 not failed: of a request that stands in the table the closed form holds exactly if some conditions and
+-- some command make the controller send it. `hold` is the command held before the step, `after` the one held after it.
+step-exact : (n mask w left : ℕ) (last far hold after x : Request) → carries requests n (x .code) (x .channel) ≡ true
+    → Open n mask w left last far hold after x ↔ Caused n mask w left last false far hold after x
+step-exact = one-step
+
+-- And with section 0 failed, when 00 08 is accepted.
+hidden-step-exact : (n mask w left : ℕ) (last hold after x : Request)
+    → carries requests n (x .code) (x .channel) ≡ true
+    → Hidden n mask w left last hold after x ↔ Caused n mask w left last true noRequest hold after x
+hidden-step-exact = one-hidden-step
+
+-- The judge lines of document 01.
+lines-right : Hold lines
+lines-right = lines-hold
