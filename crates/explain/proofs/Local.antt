@@ -371,7 +371,7 @@ module _ (mask w left : ℕ) (last : Request) where
       (or-true (eqb (x .code) (condition mask c 1 .code)) (leb 1 c && eqb (x .code) (condition mask c 2 .code)) h)
 
   pub arises-local : (n : ℕ) (x : Request) → carries requests n (x .code) (x .channel) ≡ true
-      → arises mask (held last) (held x) (nowOf 0) last x ≡ true → Local n false x
+      → arises mask (commanded (held last) (held x)) (nowOf 0) last x ≡ true → Local n false x
   unfolding arises heldIn
   arises-local n x carried h = go (eqb (x .code) 0b0000) (commanded (held last) (held x)) (conditioned mask x) refl refl refl h
     where
@@ -389,7 +389,7 @@ module _ (mask w left : ℕ) (last : Request) where
       go false false false e f g k = wait-local n x carried k
 
   pub unseen-local : (n : ℕ) (x : Request) → carries requests n (x .code) (x .channel) ≡ true
-      → unseen (held last) (held x) x ≡ true → Local n true x
+      → unseen (commanded (held last) (held x)) x ≡ true → Local n true x
   unfolding unseen rankOf rankIn
   unseen-local n x carried h =
       let parts =

@@ -15,7 +15,7 @@ use Rattle.request.proofs.Order.{or-true, or-right}
 use Rattle.controller.specs.Rules.{noRequest, rankOfRequest, held, decided}
 use Rattle.controller.specs.Step.{protection}
 use Rattle.controller.proofs.Candidates.{none-loses}
-use Rattle.explain.specs.Cause.{arises, unseen, answers}
+use Rattle.explain.specs.Cause.{commanded, arises, unseen, answers}
 use Rattle.explain.proofs.Ranking.{wins}
 use Rattle.explain.proofs.Local.{Fits, nowOf, nearOf, Local, no-local, arises-local, unseen-local}
 use Rattle.explain.proofs.Source.{local-arises, local-unseen}
@@ -36,13 +36,13 @@ module _ (n mask w left : ℕ) (last : Request) where
   -- section 0 not failed: RR to a better request of the far end, or a local request that it does not beat
   pub record Open (far hold after x : Request) : Type 0 where
     pub before : hold ≡ held last
-    pub possible : answers far x (arises mask hold after (nowOf mask w left last 0) last x) ≡ true
+    pub possible : answers far x (arises mask (commanded hold after) (nowOf mask w left last 0) last x) ≡ true
     pub afterwards : after ≡ held x
 
   -- section 0 failed, and 00 08 accepted
   pub record Hidden (hold after x : Request) : Type 0 where
     pub before : hold ≡ held last
-    pub possible : unseen hold after x ≡ true
+    pub possible : unseen (commanded hold after) x ≡ true
     pub afterwards : after ≡ held x
 
   abbrev AnyLocal : Bool → Request → Type 0
@@ -75,7 +75,7 @@ module _ (n mask w left : ℕ) (last : Request) where
       }
 
   abbrev localOf : Request → Bool
-  localOf x = arises mask (held last) (held x) (nowOf mask w left last 0) last x
+  localOf x = arises mask (commanded (held last) (held x)) (nowOf mask w left last 0) last x
 
   abbrev reversed : Request → Request → Bool
   reversed far x = eqb (x .code) 0b0010 && mayWin (rankOfRequest far) && eqb (far .channel) (x .channel)
@@ -140,7 +140,7 @@ module _ (n mask w left : ℕ) (last : Request) where
     where
       forward : Hidden hold after x → Caused true noRequest hold after x
       forward o =
-          let possible : unseen (held last) (held x) x ≡ true = rw (o .before, o .afterwards) at (o .possible) in
+          let possible : unseen (commanded (held last) (held x)) x ≡ true = rw (o .before, o .afterwards) at (o .possible) in
           rw (o .before, o .afterwards)
           (decided-by true noRequest x x (unseen-local mask w left last n x carried possible) (none-loses x))
 
@@ -149,7 +149,7 @@ module _ (n mask w left : ℕ) (last : Request) where
           let near = nearOf mask w left last (by .conditions) (by .command) (by .channel) in
           let is : near ≡ x = sym (none-loses near) ∙ by .sends in
           let local = local-unseen mask w left last n near (local-in true noRequest hold after x by) in
-          let possible = subst (λ (y : Request). unseen (held last) (held y) y ≡ true) is local in
+          let possible = subst (λ (y : Request). unseen (commanded (held last) (held y)) y ≡ true) is local in
           record {
             before = by .before;
             possible = rw (by .before, by .afterwards) possible;

@@ -28,7 +28,7 @@ use Rattle.controller.proofs.Sending.{sent-sendable}
 use Rattle.controller.proofs.Keeping.{k1-back, not-refused, step-keeps, step-taken}
 use Rattle.explain.specs.Capture.{Row}
 use Rattle.explain.specs.Explained.{Cause, stepped, Sends}
-use Rattle.explain.specs.Cause.{unseen, answers}
+use Rattle.explain.specs.Cause.{commanded, unseen, answers}
 use Rattle.explain.specs.Trace.{secondFits, opens, localIn, hiddenIn, recordAfter}
 use Rattle.explain.proofs.Local.{nearOf}
 use Rattle.explain.proofs.OneStep.{Caused, one-step, one-hidden-step}
@@ -290,7 +290,7 @@ module _ (s : Controller) (r : Row) (able : Able s) where
           one-hidden-step (s .n) (s .mask) (s .w) (s .left) last (held last) (held x) x carry .1 (caused cause sends true e) in
           let second : secondFits (r .sentK2) 0 ≡ true =
           rw (bridge-none (x .channel) (keepsBridge x)) at (second-is cause sends true e) in
-          inl (and-eq-true-iff (unseen (held last) (held x) x) (secondFits (r .sentK2) 0) .1 (hidden .possible, second), record-is cause sends true e)
+          inl (and-eq-true-iff (unseen (commanded (held last) (held x)) x) (secondFits (r .sentK2) 0) .1 (hidden .possible, second), record-is cause sends true e)
       go false e =
           let opened =
           one-step (s .n) (s .mask) (s .w) (s .left) last (far false) (held last) (held x) x carry .1
@@ -344,7 +344,7 @@ module _ (s : Controller) (r : Row) (able : Able s) where
       hides : UsablePair (s .n) (r .sentK1) (r .sentK2) → hiddenIn s x (r .sentK2) ≡ true
           → Some (recordAfter s now0 idleK1 idleK2 (r .sentK1))
       hides pair h =
-          let both = and-eq-true-iff (unseen (held last) (held x) x) (secondFits (r .sentK2) 0) .0 h in
+          let both = and-eq-true-iff (unseen (commanded (held last) (held x)) x) (secondFits (r .sentK2) 0) .0 h in
           let by =
           one-hidden-step (s .n) (s .mask) (s .w) (s .left) last (held last) (held x) x (pair .carried) .0
           record { before = refl; possible = both .0; afterwards = refl } in

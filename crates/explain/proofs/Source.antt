@@ -196,7 +196,7 @@ module _ (mask w left : ℕ) (last : Request) where
         ⊎-elim (none-part x) (λ h. inr (inr (inr h))) (subst ByWait (sym e) (wait-source command))
 
   pub local-arises : (n : ℕ) (x : Request) → Local mask w left last n false x
-      → arises mask (held last) (held x) (nowOf mask w left last 0) last x ≡ true
+      → arises mask (commanded (held last) (held x)) (nowOf mask w left last 0) last x ≡ true
   unfolding arises
   local-arises n x l =
       one-part (eqb (x .code) 0b0000) (commanded (held last) (held x)) (conditioned mask x)
@@ -246,7 +246,7 @@ module _ (mask w left : ℕ) (last : Request) where
               let none : rankOfRequest x ≡ 0 = rw e (section-rank 0b1111 (x .channel) (omega arith)) in
               absurd (omega arith)
 
-  low-none : (x : Request) → 9 ≤ rankOfRequest x → x ≡ noRequest → unseen (held last) (held x) x ≡ true
+  low-none : (x : Request) → 9 ≤ rankOfRequest x → x ≡ noRequest → unseen (commanded (held last) (held x)) x ≡ true
   low-none x high e = let none : rankOfRequest x ≡ 0 = rw e none-rank in absurd (omega arith)
 
   module _ (conditions : List ℕ) (command c : ℕ) (failed : protection conditions ≡ 2) where
@@ -268,7 +268,7 @@ module _ (mask w left : ℕ) (last : Request) where
             absurd (true≢false (sym wins ∙ ap (λ (v : ℕ). byRank rankOf (condition mask 0 v) found) (sym failed) ∙ loses))
         go false e = ltb-false (rankOfRequest found) 9 e
 
-    hidden : (x : Request) → 9 ≤ rankOfRequest x → Source conditions command c x → unseen (held last) (held x) x ≡ true
+    hidden : (x : Request) → 9 ≤ rankOfRequest x → Source conditions command c x → unseen (commanded (held last) (held x)) x ≡ true
     unfolding unseen
     hidden x high (inl e) = low-none x high e
     hidden x high (inr (inl e)) =
@@ -289,10 +289,10 @@ module _ (mask w left : ℕ) (last : Request) where
         let low : rankOfRequest x ≤ 2 = rw e (wait-below mask w left last (nowOf mask w left last command)) in
         absurd (omega arith)
 
-  pub local-unseen : (n : ℕ) (x : Request) → Local mask w left last n true x → unseen (held last) (held x) x ≡ true
+  pub local-unseen : (n : ℕ) (x : Request) → Local mask w left last n true x → unseen (commanded (held last) (held x)) x ≡ true
   local-unseen n x l =
       let failed = eqb-true (protection (l .conditions)) 2 (l .protects) in
-      subst (λ (y : Request). unseen (held last) (held y) y ≡ true) (l .near)
+      subst (λ (y : Request). unseen (commanded (held last) (held y)) y ≡ true) (l .near)
       (hidden (l .conditions) (l .command) (l .channel) failed
       (nearOf mask w left last (l .conditions) (l .command) (l .channel))
       (least (l .conditions) (l .command) (l .channel) failed)

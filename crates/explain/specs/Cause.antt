@@ -21,15 +21,13 @@ conditioned mask x =
 abbrev pub waited : ℕ → Request → Request → Bool
 waited now last x = isWait (x .code) && eqb (x .channel) (last .channel) && leb 1 now
 
--- some cause makes it the local request, section 0 not failed
-unfoldable pub arises : ℕ → Request → Request → ℕ → Request → Request → Bool
-arises mask hold after now last x =
-    eqb (x .code) 0b0000 || commanded hold after || conditioned mask x || waited now last x
+-- some cause makes it the local request, section 0 not failed: none, by a command, by a condition, by the wait
+unfoldable pub arises : ℕ → Bool → ℕ → Request → Request → Bool
+arises mask command now last x = eqb (x .code) 0b0000 || command || conditioned mask x || waited now last x
 
 -- some cause makes it the local request, section 0 failed: SF0, or LO above it
-unfoldable pub unseen : Request → Request → Request → Bool
-unseen hold after x =
-    eqb (x .channel) 0 && (eqb (x .code) 0b1101 || eqb (x .code) 0b1111 && commanded hold after)
+unfoldable pub unseen : Bool → Request → Bool
+unseen command x = eqb (x .channel) 0 && (eqb (x .code) 0b1101 || eqb (x .code) 0b1111 && command)
 
 -- it is RR to what the far end asks for, or a local request that the far end does not beat
 unfoldable pub answers : Request → Request → Bool → Bool

@@ -13,7 +13,7 @@ use Rattle.controller.specs.Rules.{asked, held, leftAfter, keepsBridge}
 use Rattle.controller.specs.Step.{waitOf}
 use Rattle.controller.specs.declared.Controller.{Controller}
 use Rattle.explain.specs.Capture.{Row, rowsOf}
-use Rattle.explain.specs.Cause.{arises, unseen, answers}
+use Rattle.explain.specs.Cause.{commanded, arises, unseen, answers}
 use Rattle.explain.specs.Scan.{Scanned, all, first, scanFrom}
 use Rattle.explain.specs.Verdict.{Judging, explainedAt, unexplainedAt}
 use Rattle.explain.specs.declared.Records.{Records}
@@ -42,14 +42,19 @@ abbrev pub opens : ℕ → Request → ℕ → Bool → Bool
 opens k1 x k2 local =
     answers (asked k1) x local && secondFits k2 (bridge (channelOf k1) (x .channel) (keepsBridge x))
 
--- whether x is a local request, with section 0 good enough and failed
+-- the command held before the step and the one held after it allow each other
+abbrev pub commandIn : Controller → Request → Bool
+commandIn s x = commanded (held (asked (s .sent))) (held x)
+
+-- x is a local request, section 0 not failed
 abbrev pub localIn : Controller → Request → Bool
 localIn s x =
     let last = asked (s .sent) in
-    arises (s .mask) (held last) (held x) (waitOf s last 0) last x
+    arises (s .mask) (commandIn s x) (waitOf s last 0) last x
 
+-- the pair is sent under a failed section 0
 abbrev pub hiddenIn : Controller → Request → ℕ → Bool
-hiddenIn s x k2 = unseen (held (asked (s .sent))) (held x) x && secondFits k2 0
+hiddenIn s x k2 = unseen (commandIn s x) x && secondFits k2 0
 
 -- the record after the step, with a pair accepted
 abbrev pub recordAfter : Controller → ℕ → ℕ → ℕ → ℕ → Controller

@@ -1,11 +1,9 @@
 // What some cause makes the controller send (01, 'One step', rules 2 to 4, read from what was sent).
-use controller::command::held;
 use controller::section::condition;
 use pair::request::rank;
 use request::Request;
 use request::better;
 use request::replaces;
-ghost use Rattle.controller.specs.Rules.{held};
 ghost use Rattle.explain.specs.Cause.{commanded, conditioned, waited, arises, unseen, answers};
 ghost use mathlib.Core.Path.{_≡_};
 
@@ -19,7 +17,8 @@ const FAIL: u8 = 0b1101;
 
 const LOCKOUT: u8 = 0b1111;
 
-fn commanded(hold: Request, after: Request) -> bool
+// One command a step: a clear that drops the held one leaves no room for a new one.
+pub(crate) fn commanded(hold: Request, after: Request) -> bool
     ensures { λ r. ⌜ r ≡ commanded hold after ⌝ }
 {
     let goes_on = (after.code == hold.code) & (after.channel == hold.channel);
@@ -44,22 +43,19 @@ fn waited(now: u16, last: Request, x: Request) -> bool
     (x.code == WAIT_TO_RESTORE) & (x.channel == last.channel) & (1 <= now)
 }
 
-// One command a step: a clear that drops the held one leaves no room for a new one.
-pub(crate) fn arises(mask: u16, last: Request, now: u16, x: Request) -> bool
-    ensures { λ r. ⌜ r ≡ arises mask (held last) (held x) now last x ⌝ }
+pub(crate) fn arises(mask: u16, command: bool, now: u16, last: Request, x: Request) -> bool
+    ensures { λ r. ⌜ r ≡ arises mask command now last x ⌝ }
 {
-    let by_command = commanded(held(last), held(x));
     let by_condition = conditioned(mask, x);
     let by_wait = waited(now, last, x);
-    (x.code == NOTHING) | by_command | by_condition | by_wait
+    (x.code == NOTHING) | command | by_condition | by_wait
 }
 
 // Section 0 has failed, unseen under LO.
-pub(crate) fn unseen(last: Request, x: Request) -> bool
-    ensures { λ r. ⌜ r ≡ unseen (held last) (held x) x ⌝ }
+pub(crate) fn unseen(command: bool, x: Request) -> bool
+    ensures { λ r. ⌜ r ≡ unseen command x ⌝ }
 {
-    let by_command = commanded(held(last), held(x));
-    (x.channel == 0) & ((x.code == FAIL) | ((x.code == LOCKOUT) & by_command))
+    (x.channel == 0) & ((x.code == FAIL) | ((x.code == LOCKOUT) & command))
 }
 
 pub(crate) fn answers(far: Request, x: Request, local: bool) -> bool

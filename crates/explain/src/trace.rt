@@ -5,9 +5,11 @@ use crate::cause::NOTHING;
 use crate::cause::WAIT_TO_RESTORE;
 use crate::cause::answers;
 use crate::cause::arises;
+use crate::cause::commanded;
 use crate::cause::unseen;
 use controller::Controller;
 use controller::asked::asked;
+use controller::command::held;
 use controller::wait::wait_of;
 use pair::Decoded;
 use pair::decode;
@@ -61,8 +63,9 @@ fn traced(d: Records, k1: u8, k2: u8, sent1: u8, sent2: u8) -> Records
     let last = asked(s.sent);
     let x = asked(sent1);
     let now = wait_of(s, last, 0);
-    let local = arises(s.mask, last, now, x);
-    let hidden = unseen(last, x) & second_fits(sent2, 0);
+    let command = commanded(held(last), held(x));
+    let local = arises(s.mask, command, now, last, x);
+    let hidden = unseen(command, x) & second_fits(sent2, 0);
     let Decoded::Usable(_) = decode(s.n, k1, k2) else {
         let heard = d.heard & opens(s.k1, x, sent2, local);
         let idle = (d.idle & opens(Controller::IDLE_K1, x, sent2, local)) | hidden;

@@ -16,6 +16,15 @@ asked-requires-2 c κs = search needs
 wait-of-requires : tie.Need-wait-of-requires
 wait-of-requires c κs = search needs
 
+held-requires : tie.Need-held-requires
+held-requires c κs = search needs
+
+held-requires-2 : tie.Need-held-requires-2
+held-requires-2 c κs = search needs
+
+commanded-requires : tie.Need-commanded-requires
+commanded-requires c κs = search needs
+
 arises-requires : tie.Need-arises-requires
 arises-requires c κs = search needs
 
@@ -43,9 +52,9 @@ record-after-requires c κs = search needs
 returns : tie.Need-returns
 unfolding traced
 returns c =
-    let a = c .before .before .before .before .before .before .before .before .before .before .before .before .before .before .args in
+    let a = c .before .before .before .before .before .before .before .before .before .before .before .before .before .before .before .before .before .args in
     let d = c .before .before .before .before .before .before .decode in
-    let fits = c .before .before .before .before .before .before .before .before .before .before .before .before .before .before .pre in
+    let fits = c .before .before .before .before .before .before .before .before .before .before .before .before .before .before .before .before .before .pre in
     rw (
       c .record-after .ensures,
       c .before .before .opens2 .ensures,
@@ -53,9 +62,12 @@ returns c =
       c .before .before .before .before .before .before .before .second-fits .ensures,
       c .before .before .before .before .before .before .before .before .unseen .ensures,
       c .before .before .before .before .before .before .before .before .before .arises .ensures,
-      c .before .before .before .before .before .before .before .before .before .before .wait-of .ensures,
-      c .before .before .before .before .before .before .before .before .before .before .before .asked2 .ensures,
-      c .before .before .before .before .before .before .before .before .before .before .before .before .asked .ensures,
+      c .before .before .before .before .before .before .before .before .before .before .commanded .ensures,
+      c .before .before .before .before .before .before .before .before .before .before .before .held2 .ensures,
+      c .before .before .before .before .before .before .before .before .before .before .before .before .held .ensures,
+      c .before .before .before .before .before .before .before .before .before .before .before .before .before .wait-of .ensures,
+      c .before .before .before .before .before .before .before .before .before .before .before .before .before .before .asked2 .ensures,
+      c .before .before .before .before .before .before .before .before .before .before .before .before .before .before .before .asked .ensures,
       other-marked (a .d .controller .n) (a .k1) (a .k2) (d .result) fits (d .ensures .decided) (c .before .before .before .before .before .match .keys2),
     )
 
@@ -68,7 +80,7 @@ record-after-requires-2 c κs = search needs
 returns-2 : tie.Need-returns-2
 unfolding traced
 returns-2 c =
-    let a = c .before .before .before .before .before .before .before .before .before .before .before .before .args in
+    let a = c .before .before .before .before .before .before .before .before .before .before .before .before .before .before .before .args in
     let d = c .before .before .before .before .decode in
     let p = c .before .before .enum-told .given .0 .0 in
     let facts =
@@ -79,9 +91,12 @@ returns-2 c =
       c .before .before .before .before .before .second-fits .ensures,
       c .before .before .before .before .before .before .unseen .ensures,
       c .before .before .before .before .before .before .before .arises .ensures,
-      c .before .before .before .before .before .before .before .before .wait-of .ensures,
-      c .before .before .before .before .before .before .before .before .before .asked2 .ensures,
-      c .before .before .before .before .before .before .before .before .before .before .asked .ensures,
+      c .before .before .before .before .before .before .before .before .commanded .ensures,
+      c .before .before .before .before .before .before .before .before .before .held2 .ensures,
+      c .before .before .before .before .before .before .before .before .before .before .held .ensures,
+      c .before .before .before .before .before .before .before .before .before .before .before .wait-of .ensures,
+      c .before .before .before .before .before .before .before .before .before .before .before .before .asked2 .ensures,
+      c .before .before .before .before .before .before .before .before .before .before .before .before .before .asked .ensures,
       mark-none (a .d .controller .n) (a .k1) (a .k2) (facts .0),
     )
 
@@ -92,6 +107,9 @@ traced-spec =
     asked-requires
     asked-requires-2
     wait-of-requires
+    held-requires
+    held-requires-2
+    commanded-requires
     arises-requires
     unseen-requires
     second-fits-requires
