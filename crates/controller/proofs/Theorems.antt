@@ -55,17 +55,17 @@ fresh-unique κs args x y s t p q = one-case p q
 step-unique : OneAnswer 1 step-kinds.ps step-kinds.r step-fn.Post
 step-unique κs args x y s t p q = one-value p q
 
-asked-unique : OneAnswer 0 asked-kinds.ps asked-kinds.r asked-fn.Post
-asked-unique κs args x y s t p q = one-value p q
-
-held-unique : OneAnswer 0 held-kinds.ps held-kinds.r held-fn.Post
-held-unique κs args x y s t p q = one-value p q
-
-condition-unique : OneAnswer 0 condition-kinds.ps condition-kinds.r condition-fn.Post
-condition-unique κs args x y s t p q = one-value p q
-
-wait-of-unique : OneAnswer 0 wait-of-kinds.ps wait-of-kinds.r wait-of-fn.Post
-wait-of-unique κs args x y s t p q = one-value p q
+-- So it is for what is open to the judge alone: `asked`, `held`, `condition`, `wait_of`.
+shared-unique : OneAnswer 0 asked-kinds.ps asked-kinds.r asked-fn.Post
+    × OneAnswer 0 held-kinds.ps held-kinds.r held-fn.Post
+    × OneAnswer 0 condition-kinds.ps condition-kinds.r condition-fn.Post
+    × OneAnswer 0 wait-of-kinds.ps wait-of-kinds.r wait-of-fn.Post
+shared-unique = (
+  λ κs args x y s t p q. one-value p q,
+  λ κs args x y s t p q. one-value p q,
+  λ κs args x y s t p q. one-value p q,
+  λ κs args x y s t p q. one-value p q,
+)
 
 -- The refusals come in the paper's order: a step has refusal i + 1 exactly if the fault at place i is its first, and none
 -- exactly if there is no fault. A refused step answers zeros and the given record.

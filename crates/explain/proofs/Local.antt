@@ -36,6 +36,16 @@ pub record Fits (n : ℕ) (conditions : List ℕ) (command c : ℕ) : Type 0 whe
   pub command-fits : command ≤ 4
   pub channel-fits : channelFits n command c ≡ true
 
+-- LO, FS and MS
+pub command-cases : (code : ℕ) → isCommand code ≡ true → (code ≡ 0b1111) ⊎ (code ≡ 0b1110) ⊎ (code ≡ 0b1000)
+command-cases code h =
+    ⊎-elim
+    (λ two.
+    ⊎-elim (λ lo. inl (eqb-true code 0b1111 lo)) (λ fs. inr (inl (eqb-true code 0b1110 fs)))
+    (or-true (eqb code 0b1111) (eqb code 0b1110) two))
+    (λ ms. inr (inr (eqb-true code 0b1000 ms)))
+    (or-true (eqb code 0b1111 || eqb code 0b1110) (eqb code 0b1000) h)
+
 same-eq : (a b : Request) → same a b ≡ true → a ≡ b
 same-eq a b h =
     let both = and-eq-true-iff (eqb (a .code) (b .code)) (eqb (a .channel) (b .channel)) .0 h in
@@ -85,14 +95,12 @@ module _ (n : ℕ) (x : Request) (carried : carries requests n (x .code) (x .cha
 
   a-command : isCommand (x .code) ≡ true → Command n x
   unfolding rankIn heldIn
-  a-command h =
-      ⊎-elim
-      (λ two.
-      ⊎-elim (λ lo. lock-out (eqb-true (x .code) 0b1111 lo))
-      (λ fs. on-some 3 0b1110 (eqb-true (x .code) 0b1110 fs) (lit≤ tt) refl refl refl refl (lit≤ tt))
-      (or-true (eqb (x .code) 0b1111) (eqb (x .code) 0b1110) two))
-      (λ ms. on-some 4 0b1000 (eqb-true (x .code) 0b1000 ms) (lit≤ tt) refl refl refl refl (lit≤ tt))
-      (or-true (eqb (x .code) 0b1111 || eqb (x .code) 0b1110) (eqb (x .code) 0b1000) h)
+  a-command h = go (command-cases (x .code) h)
+    where
+      go : (x .code ≡ 0b1111) ⊎ (x .code ≡ 0b1110) ⊎ (x .code ≡ 0b1000) → Command n x
+      go (inl lo) = lock-out lo
+      go (inr (inl fs)) = on-some 3 0b1110 fs (lit≤ tt) refl refl refl refl (lit≤ tt)
+      go (inr (inr ms)) = on-some 4 0b1000 ms (lit≤ tt) refl refl refl refl (lit≤ tt)
 
 -- the closed form for commands, taken apart
 pub commanded-by : (hold x : Request) → commanded hold (held x) ≡ true
@@ -313,16 +321,13 @@ module _ (mask w left : ℕ) (last : Request) where
       no : (code : ℕ) → last .code ≡ code → isFailOrDegrade code ≡ false → isWait code ≡ false → ⊥
       no code e fail wait = let none : 1 ≤ 0 = rw (e, fail, wait) at some in omega arith
 
+      which : (last .code ≡ 0b1111) ⊎ (last .code ≡ 0b1110) ⊎ (last .code ≡ 0b1000) → ⊥
+      which (inl lo) = no 0b1111 lo refl refl
+      which (inr (inl fs)) = no 0b1110 fs refl refl
+      which (inr (inr ms)) = no 0b1000 ms refl refl
+
       go : (t : Bool) → isCommand (last .code) ≡ t → held last ≡ noRequest
-      go true e =
-          absurd
-          (⊎-elim
-          (λ two.
-          ⊎-elim (λ lo. no 0b1111 (eqb-true (last .code) 0b1111 lo) refl refl)
-          (λ fs. no 0b1110 (eqb-true (last .code) 0b1110 fs) refl refl)
-          (or-true (eqb (last .code) 0b1111) (eqb (last .code) 0b1110) two))
-          (λ ms. no 0b1000 (eqb-true (last .code) 0b1000 ms) refl refl)
-          (or-true (eqb (last .code) 0b1111 || eqb (last .code) 0b1110) (eqb (last .code) 0b1000) e))
+      go true e = absurd (which (command-cases (last .code) e))
       go false e = rw e
 
   wait-local : (n : ℕ) (x : Request) → carries requests n (x .code) (x .channel) ≡ true
@@ -351,23 +356,29 @@ module _ (mask w left : ℕ) (last : Request) where
             (inr (inr waits));
       }
 
+  -- by the condition v of its own section
+  bad-local : (n : ℕ) (x : Request) → carries requests n (x .code) (x .channel) ≡ true → (v : ℕ) → v ≤ 2 →
+      let bad = condition mask (x .channel) v in
+      bad .channel ≡ x .channel → eqb (x .code) (bad .code) ≡ true → 0 < rankOfRequest bad
+      → (eqb v 2 ≡ false) ⊎ (1 ≤ x .channel) → Local n false x
+  bad-local n x carried v small channel e rank good =
+      let c = x .channel in
+      let bad = condition mask c v in
+      let code : x .code ≡ bad .code = eqb-true (x .code) (bad .code) e in
+      let is : bad ≡ x = λ i. record { code = sym code i; channel = channel i } in
+      let within = carried-within requests n (x .code) c carried in
+      subst (λ (t : Bool). Local n t x) (only-good n c v good)
+      (subst (Local n (eqb (protection (only (suc n) c v)) 2)) is (section-local n c v within small rank))
+
   condition-local : (n : ℕ) (x : Request) → carries requests n (x .code) (x .channel) ≡ true
       → conditioned mask x ≡ true → Local n false x
   condition-local n x carried h =
       let c = x .channel in
-      let within = carried-within requests n (x .code) c carried in
-      let bad : (v : ℕ) → v ≤ 2 → eqb (x .code) (condition mask c v .code) ≡ true
-      → condition mask c v ≡ request (condition mask c v .code) c
-      → 0 < rankOfRequest (condition mask c v) → (eqb v 2 ≡ false) ⊎ (1 ≤ c) → Local n false x = λ v small e whole rank good.
-      let code : x .code ≡ condition mask c v .code = eqb-true (x .code) (condition mask c v .code) e in
-      let is : condition mask c v ≡ x = whole ∙ (λ i. record { code = sym code i; channel = c }) in
-      subst (λ (t : Bool). Local n t x) (only-good n c v good)
-      (subst (Local n (eqb (protection (only (suc n) c v)) 2)) is (section-local n c v within small rank)) in
-      ⊎-elim (λ degraded. bad 1 (lit≤ tt) degraded refl (degrade-rank mask c) (inl refl))
+      ⊎-elim (λ degraded. bad-local n x carried 1 (lit≤ tt) refl degraded (degrade-rank mask c) (inl refl))
       (λ failed.
       let both = and-eq-true-iff (leb 1 c) (eqb (x .code) (condition mask c 2 .code)) .0 failed in
       let some = leb-true 1 c (both .0) in
-      bad 2 (lit≤ tt) (both .1) refl (fail-rank (high mask c) c some .0) (inr some))
+      bad-local n x carried 2 (lit≤ tt) refl (both .1) (fail-rank (high mask c) c some .0) (inr some))
       (or-true (eqb (x .code) (condition mask c 1 .code)) (leb 1 c && eqb (x .code) (condition mask c 2 .code)) h)
 
   pub arises-local : (n : ℕ) (x : Request) → carries requests n (x .code) (x .channel) ≡ true

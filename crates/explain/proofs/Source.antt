@@ -12,7 +12,7 @@ use Rattle.basics.specs.Choice.{if_then_else_}
 use Rattle.pair.specs.Request.{requests, channel-0, a-section, rankIn, rankOf}
 use Rattle.request.specs.Order.{byRank, OneOf}
 use Rattle.request.specs.declared.Request.{Request}
-use Rattle.request.proofs.Order.{or-true, or-right, one-split}
+use Rattle.request.proofs.Order.{or-right, one-split}
 use Rattle.controller.specs.Settings.{high}
 use Rattle.controller.specs.Rules.{noRequest, rankOfRequest, isCommand, held, isClear, given, taken, failCode, degradeCode}
 use Rattle.controller.specs.Rules.{condition, conditionsFrom, waiting, candidates, same}
@@ -20,7 +20,7 @@ use Rattle.controller.specs.Step.{protection}
 use Rattle.controller.proofs.Candidates.{local-one, local-above}
 use Rattle.explain.specs.Cause.{commanded, conditioned, waited, arises, unseen}
 use Rattle.explain.proofs.Ranking.{above, none-rank, section-rank, rank-cases, fail-rank}
-use Rattle.explain.proofs.Local.{standsOf, nowOf, nearOf, Local, wait-below, commanded-by}
+use Rattle.explain.proofs.Local.{standsOf, nowOf, nearOf, Local, wait-below, command-cases, commanded-by}
 
 -- of the four parts of the closed form one is enough
 one-part : (a b c d : Bool) → (a ≡ true) ⊎ (b ≡ true) ⊎ (c ≡ true) ⊎ (d ≡ true) → a || b || c || d ≡ true
@@ -222,13 +222,7 @@ module _ (mask w left : ℕ) (last : Request) where
   -- of the commands LO alone is above SF0
   top-command : (x : Request) → isCommand (x .code) ≡ true → 9 ≤ rankOfRequest x → (x .code ≡ 0b1111) × (x .channel ≡ 0)
   unfolding rankIn
-  top-command x h high =
-      ⊎-elim
-      (λ two.
-      ⊎-elim (λ lo. lock-out (eqb-true (x .code) 0b1111 lo)) (λ fs. low 0b1110 (eqb-true (x .code) 0b1110 fs) (lit< tt) (lit< tt))
-      (or-true (eqb (x .code) 0b1111) (eqb (x .code) 0b1110) two))
-      (λ ms. low 0b1000 (eqb-true (x .code) 0b1000 ms) (lit< tt) (lit< tt))
-      (or-true (eqb (x .code) 0b1111 || eqb (x .code) 0b1110) (eqb (x .code) 0b1000) h)
+  top-command x h high = which (command-cases (x .code) h)
     where
       low : (code : ℕ) → x .code ≡ code → rankIn requests channel-0 code < 9 → rankIn requests a-section code < 9
           → (x .code ≡ 0b1111) × (x .channel ≡ 0)
@@ -245,6 +239,11 @@ module _ (mask w left : ℕ) (last : Request) where
               let some = eqb-false (x .channel) 0 z in
               let none : rankOfRequest x ≡ 0 = rw e (section-rank 0b1111 (x .channel) (omega arith)) in
               absurd (omega arith)
+
+      which : (x .code ≡ 0b1111) ⊎ (x .code ≡ 0b1110) ⊎ (x .code ≡ 0b1000) → (x .code ≡ 0b1111) × (x .channel ≡ 0)
+      which (inl lo) = lock-out lo
+      which (inr (inl fs)) = low 0b1110 fs (lit< tt) (lit< tt)
+      which (inr (inr ms)) = low 0b1000 ms (lit< tt) (lit< tt)
 
   low-none : (x : Request) → 9 ≤ rankOfRequest x → x ≡ noRequest → unseen (commanded (held last) (held x)) x ≡ true
   low-none x high e = let none : rankOfRequest x ≡ 0 = rw e none-rank in absurd (omega arith)

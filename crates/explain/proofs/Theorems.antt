@@ -11,10 +11,15 @@ use Rattle.pair.specs.Request.{requests, carries}
 use Rattle.request.specs.declared.Request.{Request}
 use Rattle.controller.specs.Rules.{noRequest}
 use Rattle.explain.specs.Capture.{Row, rowsOf}
-use Rattle.explain.specs.Explained.{Explained}
+use Rattle.controller.specs.declared.Controller.{Controller}
+use Rattle.explain.specs.Explained.{Cause, stepped, Sends, Explained}
 use Rattle.explain.specs.Verdict.{Judging, explainedAt, unexplainedAt, refusedBy, faults, Right}
 use Rattle.explain.specs.Lines.{lines, Hold}
+use Rattle.explain.specs.Trace.{live, next}
+use Rattle.explain.specs.declared.Records.{Records}
 use Rattle.explain.proofs.OneStep.{Caused, Open, Hidden, one-step, one-hidden-step}
+use Rattle.explain.proofs.Reached.{Able}
+use Rattle.explain.proofs.Possible.{In, next-in}
 use Rattle.explain.proofs.Exact.{explained-prefix, right-one, told-one, explained-exact, unexplained-exact, first-within}
 use Rattle.explain.proofs.Judged.{right-some, right-refused}
 use Rattle.explain.proofs.Computed.{lines-hold}
@@ -76,6 +81,12 @@ hidden-step-exact : (n mask w left : ℕ) (last hold after x : Request)
     → carries requests n (x .code) (x .channel) ≡ true
     → Hidden n mask w left last hold after x ↔ Caused n mask w left last true noRequest hold after x
 hidden-step-exact = one-hidden-step
+
+-- Behind each row the two flags leave open exactly the records that some cause leads to from the records left open before it.
+records-exact : (d : Records) (r : Row) → ((s : Controller) → In d s → Able s) → (u : Controller) → live d ≡ true
+    → In (next d r) u
+    ↔ ((s : Controller) × (c : Cause) × In d s × Sends (stepped s c r) r × (u ≡ stepped s c r .controller))
+records-exact = next-in
 
 -- The judge lines of document 01.
 lines-right : Hold lines

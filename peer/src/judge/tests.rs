@@ -1,6 +1,8 @@
 use super::*;
 use crate::draws::Draws;
 use std::collections::HashSet;
+use std::fs;
+use std::path::Path;
 
 /// The settings of the paper's sequences.
 fn judged(rows: &[Row]) -> Verdict {
@@ -313,4 +315,21 @@ fn the_steps_before_the_first_unexplained_are_explained() {
             assert_eq!(explain(start, &rows[..length], &causes), expected);
         }
     }
+}
+
+/// The books that the repository shows, each with what is expected of it.
+#[test]
+fn the_example_books() {
+    let folder = Path::new(env!("CARGO_MANIFEST_DIR")).join("../examples");
+    let files = fs::read_dir(folder)
+        .unwrap()
+        .map(|file| file.unwrap().path());
+    let mut books = 0;
+    for book in files.filter(|file| file.extension().is_some_and(|kind| kind == "book")) {
+        let printed = table::Table::of(&fs::read(&book).unwrap()).to_string();
+        let expected = fs::read_to_string(book.with_extension("txt")).unwrap();
+        assert_eq!(printed, expected, "{}", book.display());
+        books += 1;
+    }
+    assert!(books >= 6, "{books}");
 }
