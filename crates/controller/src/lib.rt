@@ -2,7 +2,7 @@
 mod acceptance;
 mod answer;
 pub mod asked;
-mod codes;
+pub mod codes;
 pub mod command;
 mod local;
 mod refusal;

@@ -6,7 +6,6 @@ use Prim.Native.Nat.{ℕ, _%_, _≤_}
 use lib.Dec.{eqb}
 use lib.ListN.{length}
 use borrow.Author.Tests.{eqb-true, eqb-false, ltb-false, ne-eqb, not-false}
-use Rattle.basics.specs.Choice.{if_then_else_}
 use Rattle.basics.specs.First.{firstOf}
 use Rattle.basics.proofs.First.{none-exact, none-both, first-behind, first-before}
 use Rattle.pair.specs.Coder.{sectionsFit}

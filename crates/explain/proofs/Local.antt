@@ -10,7 +10,6 @@ use native.Mathlib.Omega.{arith}
 use lib.Dec.{ltb, leb, eqb, lit<, lit≤}
 use lib.ListN.{length, drop}
 use borrow.Author.Tests.{leb-true, eqb-true, lt-ltb, le-ltb, le-leb, ne-eqb}
-use Rattle.basics.specs.Choice.{if_then_else_}
 use Rattle.pair.specs.Request.{requests, carries, channel-0, a-section, rankIn, rankOf}
 use Rattle.pair.proofs.Rows.{heldIn, carried-within}
 use Rattle.request.specs.Order.{byRank, OneOf}

@@ -7,7 +7,6 @@ use mathlib.Core.Logic.{_↔_, ⊎-elim}
 use Prim.Native.Nat.{ℕ}
 use lib.Dec.{eqb}
 use borrow.Author.Tests.{ltb-true, eqb-true, eq-eqb, not-true}
-use Rattle.basics.specs.Choice.{if_then_else_}
 use Rattle.pair.specs.Request.{requests, carries, rankOf}
 use Rattle.request.specs.Order.{mayWin, byRank}
 use Rattle.request.specs.declared.Request.{Request}

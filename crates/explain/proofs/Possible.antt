@@ -16,7 +16,7 @@ use Rattle.explain.specs.Capture.{Row}
 use Rattle.explain.specs.Explained.{Cause, stepped, Sends}
 use Rattle.explain.specs.Trace.{idled, live, lost, opens, localIn, hiddenIn, recordAfter, traced, next}
 use Rattle.explain.specs.declared.Records.{Records}
-use Rattle.explain.proofs.Reached.{Able, Reached, far-standing, sends-reached, reached-sends}
+use Rattle.explain.proofs.Reached.{Able, standing, Reached, far-standing, sends-reached, reached-sends}
 
 -- the records that the flags leave open
 abbrev pub In : Records → Controller → Type 0
@@ -91,9 +91,6 @@ module _ (d : Records) (r : Row) where
   module _ (good : (s : Controller) → In d s → Able s) where
     abbrev From : Controller → Type 0
     From u = (s : Controller) × (c : Cause) × In d s × Sends (stepped s c r) r × (u ≡ stepped s c r .controller)
-
-    abbrev standing : Bool → ℕ → ℕ → ℕ
-    standing t received before = if t then received else before
 
     bring : (s : Controller) (i : In d s) (u : Controller) → Reached s r (good s i) u → From u
     bring s i u h = let some = reached-sends s r (good s i) u h in (s, some .0, i, some .1, some .2)

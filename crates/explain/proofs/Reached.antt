@@ -69,6 +69,10 @@ second-back n k1 k2 b u h =
 k1-whole : (k1 : ℕ) → k1Of (asked k1) ≡ k1
 k1-whole k1 = omega arith
 
+-- a byte of the pair that stands: the received one's, if that is usable
+abbrev pub standing : Bool → ℕ → ℕ → ℕ
+standing usable received before = if usable then received else before
+
 module _ (s : Controller) (r : Row) (able : Able s) where
   abbrev last : Request
   last = asked (s .sent)
@@ -133,9 +137,6 @@ module _ (s : Controller) (r : Row) (able : Able s) where
       × (((hiddenIn s x (r .sentK2) ≡ true) × (u ≡ recordAfter s now0 idleK1 idleK2 (r .sentK1)))
       ⊎ ((opens (farK1 false) x (r .sentK2) (localIn s x) ≡ true)
       × (u ≡ recordAfter s now0 (farK1 false) (farK2 false) (r .sentK1))))
-
-  abbrev standing : Bool → ℕ → ℕ → ℕ
-  standing t received kept = if t then received else kept
 
   -- the pair that stands is the received one if it is usable, and else the one before
   pub far-standing : (t : Bool) → eqb (mark (s .n) (r .k1) (r .k2)) 0 ≡ t

@@ -1,4 +1,9 @@
 // What some cause makes the controller send (01, 'One step', rules 2 to 4, read from what was sent).
+use controller::codes::FAIL_HIGH;
+use controller::codes::LOCKOUT;
+use controller::codes::NOTHING;
+use controller::codes::REVERSE;
+use controller::codes::WAIT_TO_RESTORE;
 use controller::section::condition;
 use pair::request::rank;
 use request::Request;
@@ -6,16 +11,6 @@ use request::better;
 use request::replaces;
 ghost use Rattle.explain.specs.Cause.{commanded, conditioned, waited, arises, unseen, answers};
 ghost use mathlib.Core.Path.{_≡_};
-
-pub(crate) const NOTHING: u8 = 0b0000;
-
-const REVERSE: u8 = 0b0010;
-
-pub(crate) const WAIT_TO_RESTORE: u8 = 0b0110;
-
-const FAIL: u8 = 0b1101;
-
-const LOCKOUT: u8 = 0b1111;
 
 // One command a step: a clear that drops the held one leaves no room for a new one.
 pub(crate) fn commanded(hold: Request, after: Request) -> bool
@@ -55,7 +50,7 @@ pub(crate) fn arises(mask: u16, command: bool, now: u16, last: Request, x: Reque
 pub(crate) fn unseen(command: bool, x: Request) -> bool
     ensures { λ r. ⌜ r ≡ unseen command x ⌝ }
 {
-    (x.channel == 0) & ((x.code == FAIL) | ((x.code == LOCKOUT) & command))
+    (x.channel == 0) & ((x.code == FAIL_HIGH) | ((x.code == LOCKOUT) & command))
 }
 
 pub(crate) fn answers(far: Request, x: Request, local: bool) -> bool

@@ -1,14 +1,14 @@
 // The scan: what the bytes so far leave open of the controller's record (01, 'The judge').
 use crate::Records;
 use crate::Verdict;
-use crate::cause::NOTHING;
-use crate::cause::WAIT_TO_RESTORE;
 use crate::cause::answers;
 use crate::cause::arises;
 use crate::cause::commanded;
 use crate::cause::unseen;
 use controller::Controller;
 use controller::asked::asked;
+use controller::codes::NOTHING;
+use controller::codes::WAIT_TO_RESTORE;
 use controller::command::held;
 use controller::wait::wait_of;
 use pair::Decoded;
