@@ -5,9 +5,10 @@
 //! misreading agree with each other and prove nothing. Every landing that
 //! changes this package keeps it that way.
 //!
-//! Two points were not reached so: what `pair::rank` answers for a channel that
+//! Three points were not reached so: what `pair::rank` answers for a channel that
 //! no group has, and `book::body` for an entry whose body is not all in the
-//! book. The paper is silent there. What is answered was settled for both
+//! book; and that the line of a refused capture keeps its number, sections and
+//! steps. The paper is silent there. What is answered was settled for both
 //! programs, and their agreement on it is no evidence.
 //!
 //! The programs are compared by what they print: `sequences` for the byte pair and
