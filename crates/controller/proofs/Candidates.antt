@@ -2,7 +2,7 @@
 use mathlib.Core.Path.{_≡_, refl}
 use mathlib.Core.Bool.{Bool, true, false}
 use mathlib.Core.List.{List, [], _∷_}
-use mathlib.Core.Logic.{_⊎_, inr}
+use mathlib.Core.Logic.{_⊎_, inl, inr, ⊎-elim}
 use Prim.Native.Nat.{ℕ, _+_, _<_, _≤_}
 use native.Mathlib.Numerals.{add-one}
 use lib.Dec.{eqb}
@@ -11,7 +11,7 @@ use lib.Seq.{drop-cons}
 use Rattle.pair.specs.Request.{rankIn, rankOf}
 use Rattle.request.specs.Order.{byRank, betterOf, best, OneOf}
 use Rattle.request.specs.declared.Request.{Request}
-use Rattle.request.proofs.Order.{best-append, best-one, best-above, best-single, best-top}
+use Rattle.request.proofs.Order.{one-split, one-joined, best-append, best-one, best-above, best-single, best-top}
 use Rattle.request.proofs.Order.{rank-irreflexive, rank-transitive}
 use Rattle.controller.specs.Rules.{reverse, noRequest, condition, conditionsFrom, candidates, localRequest, decided}
 
@@ -61,6 +61,22 @@ none-loses near = refl
 module _ (mask protection : ℕ) (working : List ℕ) (command wait : Request) where
   abbrev all : List Request
   all = candidates mask protection working command wait
+
+  -- a candidate is the command, a section's or the wait
+  pub candidate-split : (x : Request) → OneOf x all
+      → (x ≡ command) ⊎ OneOf x (conditionsFrom mask 0 (protection ∷ working)) ⊎ (x ≡ wait)
+  candidate-split x (inl same) = inl same
+  candidate-split x (inr among) =
+      ⊎-elim (λ h. inr (inl h)) (λ h. inr (inr (⊎-elim (λ e. e) absurd h)))
+      (one-split x (conditionsFrom mask 0 (protection ∷ working)) (wait ∷ []) among)
+
+  pub candidate-one : (x : Request)
+      → (x ≡ command) ⊎ OneOf x (conditionsFrom mask 0 (protection ∷ working)) ⊎ (x ≡ wait) → OneOf x all
+  candidate-one x (inl same) = inl same
+  candidate-one x (inr (inl h)) =
+      inr (one-joined x (conditionsFrom mask 0 (protection ∷ working)) (wait ∷ []) (inl h))
+  candidate-one x (inr (inr same)) =
+      inr (one-joined x (conditionsFrom mask 0 (protection ∷ working)) (wait ∷ []) (inr (inl same)))
 
   pub local-one : (localRequest mask protection working command wait ≡ noRequest)
       ⊎ OneOf (localRequest mask protection working command wait) all

@@ -2,6 +2,7 @@
 mod Scanning
 mod Ranking
 mod Single
+mod Commands
 mod Local
 mod Source
 mod OneStep

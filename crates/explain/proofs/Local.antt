@@ -1,31 +1,32 @@
--- Which local requests arise: some conditions and some command make it the local request exactly if the closed form holds of
--- it. Forward by the source of the request; backward by a witness of at most one bad section and one command.
+-- A request of which the closed form holds is made the local request by some cause: a witness of at most one bad section and
+-- one command. (That the closed form holds of every local request is in Source.)
 use mathlib.Core.Path.{_≡_, refl, sym, ap, subst, _∙_}
-use mathlib.Core.Bool.{Bool, true, false, not, _&&_, _||_, and-eq-true-iff, false≢true}
-use mathlib.Core.List.{List, [], _∷_}
+use mathlib.Core.Bool.{Bool, true, false, not, _&&_, _||_, and-eq-true-iff}
+use mathlib.Core.List.{List, _∷_}
 use mathlib.Core.Logic.{_⊎_, inl, inr, ⊎-elim}
 use Prim.Native.Nat.{ℕ, suc, _+_, _≤_, _<_, zero-le}
 use native.Mathlib.Nat.{zero-add}
 use native.Mathlib.Omega.{arith}
 use lib.Dec.{ltb, leb, eqb, lit<, lit≤}
 use lib.ListN.{length, drop}
-use borrow.Author.Tests.{leb-true, eqb-true, lt-ltb, le-ltb, le-leb, ne-eqb}
-use Rattle.pair.specs.Request.{requests, carries, channel-0, a-section, rankIn, rankOf}
+use borrow.Author.Tests.{leb-true, eqb-true, lt-ltb, le-ltb, ne-eqb}
+use Rattle.pair.specs.Request.{requests, carries, rankIn, rankOf}
 use Rattle.pair.proofs.Rows.{heldIn, carried-within}
 use Rattle.request.specs.Order.{byRank, OneOf}
 use Rattle.request.specs.Wait.{waitNow}
 use Rattle.request.specs.declared.Request.{Request}
-use Rattle.request.proofs.Order.{or-true, one-split, one-joined}
+use Rattle.request.proofs.Order.{or-true}
 use Rattle.controller.specs.Settings.{high}
 use Rattle.controller.specs.Rules.{request, noRequest, rankOfRequest}
 use Rattle.controller.specs.Rules.{isCommand, held, isClear, kept, given, taken, standing, condition, conditionsFrom}
 use Rattle.controller.specs.Rules.{isFailOrDegrade, isWait, entersWait, waiting, candidates, localRequest, same}
 use Rattle.controller.specs.Refusals.{conditionsFit, channelFits}
 use Rattle.controller.specs.Step.{protection}
-use Rattle.controller.proofs.Candidates.{local-one, local-top}
+use Rattle.controller.proofs.Candidates.{candidate-split, candidate-one, local-one, local-top}
 use Rattle.explain.specs.Cause.{commanded, conditioned, waited, arises, unseen}
 use Rattle.explain.proofs.Ranking.{above, none-rank, wins, section-rank, on-section, on-protection, rank-cases}
 use Rattle.explain.proofs.Ranking.{fail-rank, degrade-rank}
+use Rattle.explain.proofs.Commands.{command-cases, a-command, commanded-by}
 use Rattle.explain.proofs.Single.{only, only-length, only-fit, only-whole, only-good, only-one, only-there}
 
 -- what is handed to a step meets none of refusals 4 to 7
@@ -34,84 +35,6 @@ pub record Fits (n : ℕ) (conditions : List ℕ) (command c : ℕ) : Type 0 whe
   pub conditions-fit : conditionsFit conditions ≡ true
   pub command-fits : command ≤ 4
   pub channel-fits : channelFits n command c ≡ true
-
--- LO, FS and MS
-pub command-cases : (code : ℕ) → isCommand code ≡ true → (code ≡ 0b1111) ⊎ (code ≡ 0b1110) ⊎ (code ≡ 0b1000)
-command-cases code h =
-    ⊎-elim
-    (λ two.
-    ⊎-elim (λ lo. inl (eqb-true code 0b1111 lo)) (λ fs. inr (inl (eqb-true code 0b1110 fs)))
-    (or-true (eqb code 0b1111) (eqb code 0b1110) two))
-    (λ ms. inr (inr (eqb-true code 0b1000 ms)))
-    (or-true (eqb code 0b1111 || eqb code 0b1110) (eqb code 0b1000) h)
-
-same-eq : (a b : Request) → same a b ≡ true → a ≡ b
-same-eq a b h =
-    let both = and-eq-true-iff (eqb (a .code) (b .code)) (eqb (a .channel) (b .channel)) .0 h in
-    let code : a .code ≡ b .code = eqb-true (a .code) (b .code) (both .0) in
-    let channel : a .channel ≡ b .channel = eqb-true (a .channel) (b .channel) (both .1) in
-    λ i. record { code = code i; channel = channel i }
-
--- a request of the table that is a command: its number, and its rank
-record Command (n : ℕ) (x : Request) : Type 0 where
-  number : ℕ
-  known : number ≤ 4
-  fits : channelFits n number (x .channel) ≡ true
-  other : isClear number ≡ false
-  new : given number (x .channel) ≡ x
-  high : 3 ≤ rankOfRequest x
-
-module _ (n : ℕ) (x : Request) (carried : carries requests n (x .code) (x .channel) ≡ true) where
-  -- on a section, by the number and the code of the command
-  on-some : (k code : ℕ) → x .code ≡ code → k ≤ 4 → leb k 2 ≡ false → isClear k ≡ false
-      → given k (x .channel) ≡ request code (x .channel) → heldIn requests channel-0 code ≡ false
-      → 3 ≤ rankIn requests a-section code → Command n x
-  on-some k code e known above-2 other new never high =
-      let here : carries requests n code (x .channel) ≡ true = rw e at carried in
-      let some = on-section n code (x .channel) never here in
-      let most = carried-within requests n code (x .channel) here in
-      record {
-        number = k;
-        known = known;
-        fits = rw (above-2, le-leb 1 (x .channel) some, le-leb (x .channel) n most);
-        other = other;
-        new = new ∙ (λ i. record { code = sym e i; channel = x .channel });
-        high = rw (e, section-rank code (x .channel) some) high;
-      }
-
-  lock-out : x .code ≡ 0b1111 → Command n x
-  unfolding rankOf rankIn heldIn
-  lock-out e =
-      let zero : x .channel ≡ 0 = on-protection n 0b1111 (x .channel) refl (rw e at carried) in
-      record {
-        number = 2;
-        known = lit≤ tt;
-        fits = rw zero;
-        other = refl;
-        new = λ i. record { code = sym e i; channel = sym zero i };
-        high = rw (e, zero) (lit≤ tt);
-      }
-
-  a-command : isCommand (x .code) ≡ true → Command n x
-  unfolding rankIn heldIn
-  a-command h = go (command-cases (x .code) h)
-    where
-      go : (x .code ≡ 0b1111) ⊎ (x .code ≡ 0b1110) ⊎ (x .code ≡ 0b1000) → Command n x
-      go (inl lo) = lock-out lo
-      go (inr (inl fs)) = on-some 3 0b1110 fs (lit≤ tt) refl refl refl refl (lit≤ tt)
-      go (inr (inr ms)) = on-some 4 0b1000 ms (lit≤ tt) refl refl refl refl (lit≤ tt)
-
--- the closed form for commands, taken apart
-pub commanded-by : (hold x : Request) → commanded hold (held x) ≡ true
-    → (isCommand (x .code) ≡ true) × ((x ≡ hold) ⊎ (taken hold x ≡ true))
-commanded-by hold x h = go (isCommand (x .code)) refl
-  where
-    go : (t : Bool) → isCommand (x .code) ≡ t → (isCommand (x .code) ≡ true) × ((x ≡ hold) ⊎ (taken hold x ≡ true))
-    go true e =
-        let sent : not (eqb (x .code) 0b0000) && (same x hold || taken hold x) ≡ true = rw e at h in
-        let which = and-eq-true-iff (not (eqb (x .code) 0b0000)) (same x hold || taken hold x) .0 sent .1 in
-        (e, ⊎-elim (λ s. inl (same-eq x hold s)) inr (or-true (same x hold) (taken hold x) which))
-    go false e = absurd (false≢true (rw e at h))
 
 module _ (mask w left : ℕ) (last : Request) where
   abbrev pub holdOf : ℕ → Request
@@ -122,6 +45,14 @@ module _ (mask w left : ℕ) (last : Request) where
 
   abbrev pub nowOf : ℕ → ℕ
   nowOf command = waitNow (isClear command) (entersWait last) (isWait (last .code)) w left
+
+  -- where wait remains no clear was given
+  pub wait-unclear : (command : ℕ) → 0 < nowOf command → nowOf command ≡ nowOf 0
+  wait-unclear command some = go (isClear command) refl
+    where
+      go : (t : Bool) → isClear command ≡ t → nowOf command ≡ nowOf 0
+      go true e = let none : 0 < 0 = rw e at some in absurd (omega arith)
+      go false e = rw e
 
   -- the local request, as the rules have it
   abbrev pub nearOf : List ℕ → ℕ → ℕ → Request
@@ -161,14 +92,17 @@ module _ (mask w left : ℕ) (last : Request) where
 
     sources : (y : Request) → OneOf y all
         → (y ≡ standsOf command channel) ⊎ ((y ≡ noRequest) ⊎ (y ≡ condition mask c v)) ⊎ (y ≡ wait)
-    sources y (inl same) = inl same
-    sources y (inr among) =
-        ⊎-elim
-        (λ h.
-        let here = subst (λ (l : List ℕ). OneOf y (conditionsFrom mask 0 l)) (only-whole n c v) h in
-        inr (inl (rw (zero-add c) at (only-one mask (suc n) 0 c v y here))))
-        (λ h. inr (inr (⊎-elim (λ e. e) absurd h)))
-        (one-split y (conditionsFrom mask 0 (protection conds ∷ drop 1 conds)) (wait ∷ []) among)
+    sources y among = go (candidate-split mask (protection conds) (drop 1 conds) (standsOf command channel) wait y among)
+      where
+        go : (y ≡ standsOf command channel)
+            ⊎ OneOf y (conditionsFrom mask 0 (protection conds ∷ drop 1 conds))
+            ⊎ (y ≡ wait)
+            → (y ≡ standsOf command channel) ⊎ ((y ≡ noRequest) ⊎ (y ≡ condition mask c v)) ⊎ (y ≡ wait)
+        go (inl e) = inl e
+        go (inr (inl h)) =
+            let here = subst (λ (l : List ℕ). OneOf y (conditionsFrom mask 0 l)) (only-whole n c v) h in
+            inr (inl (rw (zero-add c) at (only-one mask (suc n) 0 c v y here)))
+        go (inr (inr e)) = inr (inr e)
 
     there : OneOf (condition mask c v) (conditionsFrom mask 0 (protection conds ∷ drop 1 conds))
     there =
@@ -183,7 +117,8 @@ module _ (mask w left : ℕ) (last : Request) where
         → nearOf conds command channel ≡ x
     near-top x some stands section waits source =
         local-top mask (protection conds) (drop 1 conds) (standsOf command channel) wait x (wins x some)
-        (λ y among. under x y (below y (sources y among))) (one source)
+        (λ y among. under x y (below y (sources y among)))
+        (candidate-one mask (protection conds) (drop 1 conds) (standsOf command channel) wait x (one source))
       where
         below : (y : Request)
             → (y ≡ standsOf command channel) ⊎ ((y ≡ noRequest) ⊎ (y ≡ condition mask c v)) ⊎ (y ≡ wait) → Under x y
@@ -192,14 +127,14 @@ module _ (mask w left : ℕ) (last : Request) where
         below y (inr (inl (inr e))) = rw e section
         below y (inr (inr e)) = rw e waits
 
-        one : (x ≡ standsOf command channel) ⊎ (x ≡ condition mask c v) ⊎ (x ≡ wait) → OneOf x all
+        one : (x ≡ standsOf command channel) ⊎ (x ≡ condition mask c v) ⊎ (x ≡ wait)
+            → (x ≡ standsOf command channel)
+            ⊎ OneOf x (conditionsFrom mask 0 (protection conds ∷ drop 1 conds))
+            ⊎ (x ≡ wait)
         one (inl e) = inl e
         one (inr (inl e)) =
-            inr
-            (one-joined x (conditionsFrom mask 0 (protection conds ∷ drop 1 conds)) (wait ∷ [])
-            (inl (subst (λ (y : Request). OneOf y (conditionsFrom mask 0 (protection conds ∷ drop 1 conds))) (sym e) there)))
-        one (inr (inr e)) =
-            inr (one-joined x (conditionsFrom mask 0 (protection conds ∷ drop 1 conds)) (wait ∷ []) (inr (inl e)))
+            inr (inl (subst (λ (y : Request). OneOf y (conditionsFrom mask 0 (protection conds ∷ drop 1 conds))) (sym e) there))
+        one (inr (inr e)) = inr (inr e)
 
     near-none : standsOf command channel ≡ noRequest → condition mask c v ≡ noRequest → wait ≡ noRequest
         → nearOf conds command channel ≡ noRequest

@@ -2,7 +2,7 @@
 use mathlib.Core.Path.{_≡_, refl, sym, ap, subst, _∙_}
 use mathlib.Core.Bool.{Bool, true, false, not, _&&_, and-eq-true-iff}
 use mathlib.Core.Logic.{_⊎_, inl, inr, ⊎-elim}
-use Prim.Native.Nat.{ℕ, _+_, _<_}
+use Prim.Native.Nat.{ℕ, _+_}
 use native.Mathlib.Omega.{arith}
 use lib.Dec.{eqb}
 use lib.ListN.{length}
@@ -16,7 +16,7 @@ use Rattle.request.specs.Bridge.{bridge}
 use Rattle.request.specs.declared.Request.{Request}
 use Rattle.request.proofs.Channels.{bridge-within}
 use Rattle.controller.specs.Settings.{maskFits, idleK1, idleK2}
-use Rattle.controller.specs.Rules.{asked, accepted, accepting, held, isClear, isWait, decided, leftAfter, keepsBridge}
+use Rattle.controller.specs.Rules.{asked, accepted, accepting, held, isWait, decided, leftAfter, keepsBridge}
 use Rattle.controller.specs.Rules.{k1Of, k2Of}
 use Rattle.controller.specs.Refusals.{acceptable, refusal}
 use Rattle.controller.specs.Step.{protection, waitOf, moved, step}
@@ -30,7 +30,7 @@ use Rattle.explain.specs.Capture.{Row}
 use Rattle.explain.specs.Explained.{Cause, stepped, Sends}
 use Rattle.explain.specs.Cause.{commanded, unseen, answers}
 use Rattle.explain.specs.Trace.{secondFits, opens, localIn, hiddenIn, recordAfter}
-use Rattle.explain.proofs.Local.{nearOf}
+use Rattle.explain.proofs.Local.{wait-unclear, nearOf}
 use Rattle.explain.proofs.OneStep.{Caused, one-step, one-hidden-step}
 
 -- what a run keeps of a record
@@ -139,29 +139,34 @@ module _ (s : Controller) (r : Row) (able : Able s) where
       × (u ≡ recordAfter s now0 (farK1 false) (farK2 false) (r .sentK1))))
 
   -- the pair that stands is the received one if it is usable, and else the one before
-  pub far-standing : (t : Bool) → eqb (mark (s .n) (r .k1) (r .k2)) 0 ≡ t
-      → (farK1 false ≡ standing t (r .k1) (s .k1)) × (farK2 false ≡ standing t (r .k2) (s .k2))
+  far-parts : (t : Bool) → eqb (mark (s .n) (r .k1) (r .k2)) 0 ≡ t
+      → (farK1 false ≡ standing t (r .k1) (s .k1))
+      × (farK2 false ≡ standing t (r .k2) (s .k2))
+      × (far false ≡ asked (farK1 false))
   unfolding accepting
-  far-standing t e =
-      subst (λ (b : Bool). (farK1 false ≡ standing b (r .k1) (s .k1)) × (farK2 false ≡ standing b (r .k2) (s .k2))) e
-      (go (eqb (mark (s .n) (r .k1) (r .k2)) 0))
+  far-parts t e =
+      subst
+      (λ (b : Bool).
+      (farK1 false ≡ standing b (r .k1) (s .k1))
+      × (farK2 false ≡ standing b (r .k2) (s .k2))
+      × (far false ≡ asked (farK1 false))) e (go (eqb (mark (s .n) (r .k1) (r .k2)) 0))
     where
       go : (t : Bool) →
           let pair = if t then accepted (r .k1) (r .k2) 0 else accepted (s .k1) (s .k2) (mark (s .n) (r .k1) (r .k2)) in
-          (pair .k1 ≡ standing t (r .k1) (s .k1)) × (pair .k2 ≡ standing t (r .k2) (s .k2))
-      go true = (refl, refl)
-      go false = (refl, refl)
+          (pair .k1 ≡ standing t (r .k1) (s .k1))
+          × (pair .k2 ≡ standing t (r .k2) (s .k2))
+          × (pair .request ≡ asked (pair .k1))
+      go true = (refl, refl, refl)
+      go false = (refl, refl, refl)
+
+  pub far-standing : (t : Bool) → eqb (mark (s .n) (r .k1) (r .k2)) 0 ≡ t
+      → (farK1 false ≡ standing t (r .k1) (s .k1)) × (farK2 false ≡ standing t (r .k2) (s .k2))
+  far-standing t e = let parts = far-parts t e in (parts .0, parts .1)
 
   far-asked : (failed : Bool) → far failed ≡ asked (farK1 failed)
   unfolding accepting
   far-asked true = refl
-  far-asked false = go (eqb (mark (s .n) (r .k1) (r .k2)) 0)
-    where
-      go : (t : Bool) →
-          let pair = if t then accepted (r .k1) (r .k2) 0 else accepted (s .k1) (s .k2) (mark (s .n) (r .k1) (r .k2)) in
-          pair .request ≡ asked (pair .k1)
-      go true = refl
-      go false = refl
+  far-asked false = far-parts (eqb (mark (s .n) (r .k1) (r .k2)) 0) refl .2
 
   module _ (cause : Cause) (sends : Sends (stepped s cause r) r) where
     abbrev failed : Bool
@@ -195,15 +200,10 @@ module _ (s : Controller) (r : Row) (able : Able s) where
     left-is : leftAfter sent (now cause) ≡ leftAfter x now0
     left-is = go (isWait (sent .code)) refl
       where
-        runs : 0 < now cause → now cause ≡ now0
-        runs some = at (isClear (cause .command)) refl
-          where
-            at : (t : Bool) → isClear (cause .command) ≡ t → now cause ≡ now0
-            at true e = let none : 0 < 0 = rw e at some in absurd (omega arith)
-            at false e = rw e
-
         go : (t : Bool) → isWait (sent .code) ≡ t → leftAfter sent (now cause) ≡ leftAfter x now0
-        go true e = ap (leftAfter sent) (runs (sendable .waits e)) ∙ ap (λ (y : Request). leftAfter y now0) sent-is
+        go true e =
+            let same = wait-unclear (s .mask) (s .w) (s .left) last (cause .command) (sendable .waits e) in
+            ap (leftAfter sent) same ∙ ap (λ (y : Request). leftAfter y now0) sent-is
         go false e = rw e (subst (λ (y : Request). 0 ≡ leftAfter y now0) sent-is (rw e))
 
     usable : mark (s .n) (r .sentK1) (r .sentK2) ≡ 0

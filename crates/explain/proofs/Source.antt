@@ -7,20 +7,21 @@ use Prim.Native.Nat.{ℕ, suc, _≤_, _<_}
 use native.Mathlib.Omega.{arith}
 use lib.Dec.{ltb, eqb, lit<}
 use lib.ListN.{drop}
-use borrow.Author.Tests.{ltb-true, ltb-false, eqb-true, eqb-false, le-leb, eq-eqb, ne-eqb}
+use borrow.Author.Tests.{ltb-true, ltb-false, eqb-true, eqb-false, le-leb, eq-eqb}
 use Rattle.basics.specs.Choice.{if_then_else_}
 use Rattle.pair.specs.Request.{requests, channel-0, a-section, rankIn, rankOf}
 use Rattle.request.specs.Order.{byRank, OneOf}
 use Rattle.request.specs.declared.Request.{Request}
-use Rattle.request.proofs.Order.{or-right, one-split}
+use Rattle.request.proofs.Order.{or-right}
 use Rattle.controller.specs.Settings.{high}
 use Rattle.controller.specs.Rules.{noRequest, rankOfRequest, isCommand, held, isClear, given, taken, failCode, degradeCode}
-use Rattle.controller.specs.Rules.{condition, conditionsFrom, waiting, candidates, same}
+use Rattle.controller.specs.Rules.{condition, conditionsFrom, waiting, same}
 use Rattle.controller.specs.Step.{protection}
-use Rattle.controller.proofs.Candidates.{local-one, local-above}
+use Rattle.controller.proofs.Candidates.{candidate-split, local-one, local-above}
 use Rattle.explain.specs.Cause.{commanded, conditioned, waited, arises, unseen}
 use Rattle.explain.proofs.Ranking.{above, none-rank, section-rank, rank-cases, fail-rank}
-use Rattle.explain.proofs.Local.{standsOf, nowOf, nearOf, Local, wait-below, command-cases, commanded-by}
+use Rattle.explain.proofs.Local.{standsOf, nowOf, wait-unclear, nearOf, Local, wait-below}
+use Rattle.explain.proofs.Commands.{command-cases, commanded-by, commanded-of, held-cases, given-cases}
 
 -- of the four parts of the closed form one is enough
 one-part : (a b c d : Bool) → (a ≡ true) ⊎ (b ≡ true) ⊎ (c ≡ true) ⊎ (d ≡ true) → a || b || c || d ≡ true
@@ -34,43 +35,6 @@ one-part false false false d (inr (inr (inr e))) = e
 
 lockout-part : (a b c d : Bool) → a ≡ true → c ≡ true → d ≡ true → a && (b || c && d) ≡ true
 lockout-part a b c d e f g = rw (e, f, g) (or-right b true refl)
-
-commanded-of : (hold x : Request) → isCommand (x .code) ≡ true → (x ≡ hold) ⊎ (taken hold x ≡ true)
-    → commanded hold (held x) ≡ true
-commanded-of hold x e how = rw e (rw (some, which how))
-  where
-    some : eqb (x .code) 0b0000 ≡ false
-    some = ne-eqb (x .code) 0b0000 (λ z. false≢true (rw z at e))
-
-    which : (x ≡ hold) ⊎ (taken hold x ≡ true) → same x hold || taken hold x ≡ true
-    which (inl is) =
-        let code : eqb (x .code) (hold .code) ≡ true = eq-eqb (x .code) (hold .code) (ap (λ (r : Request). r .code) is) in
-        let channel : eqb (x .channel) (hold .channel) ≡ true =
-        eq-eqb (x .channel) (hold .channel) (ap (λ (r : Request). r .channel) is) in
-        rw (code, channel)
-    which (inr takes) = rw takes (or-right (same x hold) true refl)
-
-held-cases : (last : Request) → (held last ≡ noRequest) ⊎ (isCommand (held last .code) ≡ true)
-held-cases last = go (isCommand (last .code)) refl
-  where
-    go : (t : Bool) → isCommand (last .code) ≡ t → (held last ≡ noRequest) ⊎ (isCommand (held last .code) ≡ true)
-    go true e = inr (rw e e)
-    go false e = inl (rw e)
-
-given-cases : (command c : ℕ) → (given command c ≡ noRequest) ⊎ (isCommand (given command c .code) ≡ true)
-given-cases command c = go (eqb command 2) (eqb command 3) (eqb command 4)
-  where
-    go : (lo fs ms : Bool) →
-        let new : Request =
-        if lo then record { code = 0b1111; channel = 0 }
-        else if fs then record { code = 0b1110; channel = c }
-        else if ms then record { code = 0b1000; channel = c }
-        else noRequest in
-        (new ≡ noRequest) ⊎ (isCommand (new .code) ≡ true)
-    go true fs ms = inr refl
-    go false true ms = inr refl
-    go false false true = inr refl
-    go false false false = inl refl
 
 module _ (mask w left : ℕ) (last : Request) where
   abbrev ByCommand : Request → Type 0
@@ -116,21 +80,13 @@ module _ (mask w left : ℕ) (last : Request) where
   wait-source : (command : ℕ) → ByWait (waiting (nowOf mask w left last command) last)
   wait-source command = go (ltb 0 (nowOf mask w left last command)) refl
     where
-      -- no wait remains under a clear
-      runs : 0 < nowOf mask w left last command → 1 ≤ nowOf mask w left last 0
-      runs some = at (isClear command) refl
-        where
-          at : (t : Bool) → isClear command ≡ t → 1 ≤ nowOf mask w left last 0
-          at true e = let none : 0 < 0 = rw e at some in absurd (omega arith)
-          at false e = rw e at some
-
       go : (t : Bool) → ltb 0 (nowOf mask w left last command) ≡ t
           → ByWait (waiting (nowOf mask w left last command) last)
       go true e =
           let some = ltb-true 0 (nowOf mask w left last command) e in
-          rw e
-          (inr
-          (rw (eq-eqb (last .channel) (last .channel) refl, le-leb 1 (nowOf mask w left last 0) (runs some))))
+          let same = wait-unclear mask w left last command some in
+          let runs : 1 ≤ nowOf mask w left last 0 = omega arith in
+          rw e (inr (rw (eq-eqb (last .channel) (last .channel) refl, le-leb 1 (nowOf mask w left last 0) runs)))
       go false e = rw e (inl refl)
 
   some-section : (x : Request) (i : ℕ) (conditions : List ℕ) → OneOf x (conditionsFrom mask i conditions)
@@ -161,17 +117,16 @@ module _ (mask w left : ℕ) (last : Request) where
 
     source : Source near
     source =
-        ⊎-elim inl among (local-one mask (protection conditions) (drop 1 conditions) stands wait)
+        ⊎-elim inl
+        (λ among. go (candidate-split mask (protection conditions) (drop 1 conditions) stands wait near among))
+        (local-one mask (protection conditions) (drop 1 conditions) stands wait)
       where
-        among : OneOf near (candidates mask (protection conditions) (drop 1 conditions) stands wait) → Source near
-        among (inl e) = inr (inl e)
-        among (inr rest) =
-            ⊎-elim
-            (λ h.
-            ⊎-elim (λ e. inr (inr (inl e)))
-            (λ later. inr (inr (inr (inl (some-section near 1 (drop 1 conditions) later))))) h)
-            (λ h. inr (inr (inr (inr (⊎-elim (λ e. e) absurd h)))))
-            (one-split near (conditionsFrom mask 0 (protection conditions ∷ drop 1 conditions)) (wait ∷ []) rest)
+        go : (near ≡ stands) ⊎ OneOf near (conditionsFrom mask 0 (protection conditions ∷ drop 1 conditions)) ⊎ (near ≡ wait)
+            → Source near
+        go (inl e) = inr (inl e)
+        go (inr (inl (inl e))) = inr (inr (inl e))
+        go (inr (inl (inr later))) = inr (inr (inr (inl (some-section near 1 (drop 1 conditions) later))))
+        go (inr (inr e)) = inr (inr (inr (inr e)))
 
     abbrev Part : Request → Type 0
     Part x =

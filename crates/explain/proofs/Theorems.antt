@@ -72,6 +72,7 @@ prefix-closed = explained-prefix
 
 -- One step, section 0 not failed: of a request that stands in the table the closed form holds exactly if some conditions and
 -- some command make the controller send it. `hold` is the command held before the step, `after` the one held after it.
+-- (`Open` and `Hidden`, the closed form, and `Caused`, some cause, are set out in OneStep.)
 step-exact : (n mask w left : ℕ) (last far hold after x : Request) → carries requests n (x .code) (x .channel) ≡ true
     → Open n mask w left last far hold after x ↔ Caused n mask w left last false far hold after x
 step-exact = one-step

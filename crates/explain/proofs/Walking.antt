@@ -17,14 +17,14 @@ use Rattle.explain.specs.Trace.{live, traced, next, verdictOf}
 use Rattle.explain.specs.declared.Records.{Records}
 
 -- at a step, behind the bytes of those before it
-pub record Walk (bytes : List ℕ) (begin left : Records) (step at : ℕ) : Type 0 where
+pub record Walk (bytes : List ℕ) (begin possible : Records) (step at : ℕ) : Type 0 where
   pub place : at ≡ 4 * step
   pub within : at ≤ length bytes
   pub whole : length bytes % 4 ≡ 0
   pub small : length bytes ≤ most
-  pub fits : sectionsFit (left .controller .n) ≡ true
+  pub fits : sectionsFit (possible .controller .n) ≡ true
   pub remains :
-      verdictOf (scanFrom next live step left (rowsOf (drop at bytes)))
+      verdictOf (scanFrom next live step possible (rowsOf (drop at bytes)))
       ≡ verdictOf (scanFrom next live 0 begin (rowsOf bytes))
 
 pub walk-start : (bytes : List ℕ) (begin : Records) → sectionsFit (begin .controller .n) ≡ true → length bytes % 4 ≡ 0
@@ -44,7 +44,7 @@ next-sections d r =
     go true false e f = rw (e, f)
     go false b e f = rw e
 
-module _ {bytes : List ℕ} {begin left : Records} {step at : ℕ} (w : Walk bytes begin left step at) where
+module _ {bytes : List ℕ} {begin possible : Records} {step at : ℕ} (w : Walk bytes begin possible step at) where
   abbrev here : Row
   here = row (getD bytes at 0) (getD bytes (at + 1) 0) (getD bytes (at + 2) 0) (getD bytes (at + 3) 0)
 
@@ -89,30 +89,30 @@ module _ {bytes : List ℕ} {begin left : Records} {step at : ℕ} (w : Walk byt
   rest = rowsOf (drop (at + 4) bytes)
 
   step-here : at < length bytes
-      → verdictOf (scanFrom next live step left (here ∷ rest)) ≡ verdictOf (scanFrom next live 0 begin (rowsOf bytes))
-  step-here h = ap (λ (l : List Row). verdictOf (scanFrom next live step left l)) (sym (row-here h)) ∙ w .remains
+      → verdictOf (scanFrom next live step possible (here ∷ rest)) ≡ verdictOf (scanFrom next live 0 begin (rowsOf bytes))
+  step-here h = ap (λ (l : List Row). verdictOf (scanFrom next live step possible l)) (sym (row-here h)) ∙ w .remains
 
-  pub walk-next : at < length bytes → {new : Records} → new ≡ next left here → live new ≡ true
+  pub walk-next : at < length bytes → {new : Records} → new ≡ next possible here → live new ≡ true
       → Walk bytes begin new (step + 1) (at + 4)
   walk-next h {new} is e =
       let p = w .place in
-      let goes : live (next left here) ≡ true = rw is at e in
+      let goes : live (next possible here) ≡ true = rw is at e in
       rw is
       record {
         place = omega arith;
         within = whole-step h;
         whole = w .whole;
         small = w .small;
-        fits = rw (next-sections left here) (w .fits);
+        fits = rw (next-sections possible here) (w .fits);
         remains =
-            ap (λ (k : ℕ). verdictOf (scanFrom next live k (next left here) rest)) (add-one step)
+            ap (λ (k : ℕ). verdictOf (scanFrom next live k (next possible here) rest)) (add-one step)
             ∙ (rw goes at (step-here h));
       }
 
-  pub walk-stop : at < length bytes → {new : Records} → new ≡ next left here → live new ≡ false
+  pub walk-stop : at < length bytes → {new : Records} → new ≡ next possible here → live new ≡ false
       → unexplainedAt step ≡ verdictOf (scanFrom next live 0 begin (rowsOf bytes))
   walk-stop h {new} is e =
-      let stops : live (next left here) ≡ false = rw is at e in
+      let stops : live (next possible here) ≡ false = rw is at e in
       rw stops at (step-here h)
 
   pub walk-done : length bytes ≤ at → explainedAt step ≡ verdictOf (scanFrom next live 0 begin (rowsOf bytes))

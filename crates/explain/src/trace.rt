@@ -104,7 +104,7 @@ pub(crate) fn scan(s: Controller, capture: &[u8]) -> Verdict
     requires { ⌜ (sectionsFit (s .n) ≡ true) × (length (now capture) % 4 ≡ 0) × (length (now capture) ≤ most) ⌝ }
     ensures { λ r. ⌜ told r ≡ scanned s (now (capture .entry)) ⌝ }
 {
-    let mut left = Records {
+    let mut possible = Records {
         controller: s,
         heard: true,
         idle: false,
@@ -112,14 +112,14 @@ pub(crate) fn scan(s: Controller, capture: &[u8]) -> Verdict
     let mut step: u16 = 0;
     let mut at: usize = 0;
     while at < capture.len() {
-        left = next(
-            left,
+        possible = next(
+            possible,
             capture[at],
             capture[at + 1],
             capture[at + 2],
             capture[at + 3],
         );
-        let live = left.heard | left.idle;
+        let live = possible.heard | possible.idle;
         if !live {
             return Verdict::Unexplained(step);
         }

@@ -9,10 +9,10 @@ use Rattle.explain.proofs.trace.scan.Statement.{statement}
 use Rattle.explain.proofs.trace.scan.Tie as tie
 
 abbrev Inv-loop : tie.InvT-loop
-Inv-loop capture left₀ step₀ at₀ left step at = Walk capture left₀ left step at
+Inv-loop capture possible₀ step₀ at₀ possible step at = Walk capture possible₀ possible step at
 
 abbrev μ-loop : tie.MeasureT-loop
-μ-loop capture left₀ step₀ at₀ left step at = length capture - at
+μ-loop capture possible₀ step₀ at₀ possible step at = length capture - at
 
 loop-holds : tie.Need-loop-holds Inv-loop μ-loop
 loop-holds c =

@@ -1,0 +1,127 @@
+-- Commands: their numbers, codes and ranks, and the closed form for them taken apart and put together.
+use mathlib.Core.Path.{_≡_, refl, sym, ap, _∙_}
+use mathlib.Core.Bool.{Bool, true, false, not, _&&_, _||_, and-eq-true-iff, false≢true}
+use mathlib.Core.Logic.{_⊎_, inl, inr, ⊎-elim}
+use Prim.Native.Nat.{ℕ, _≤_}
+use lib.Dec.{leb, eqb, lit≤}
+use borrow.Author.Tests.{eqb-true, le-leb, eq-eqb, ne-eqb}
+use Rattle.pair.specs.Request.{requests, carries, channel-0, a-section, rankIn, rankOf}
+use Rattle.pair.proofs.Rows.{heldIn, carried-within}
+use Rattle.request.specs.declared.Request.{Request}
+use Rattle.request.proofs.Order.{or-true, or-right}
+use Rattle.controller.specs.Rules.{request, noRequest, rankOfRequest, isCommand, held, isClear, given, taken, same}
+use Rattle.controller.specs.Refusals.{channelFits}
+use Rattle.explain.specs.Cause.{commanded}
+use Rattle.explain.proofs.Ranking.{section-rank, on-section, on-protection}
+
+-- LO, FS and MS
+pub command-cases : (code : ℕ) → isCommand code ≡ true → (code ≡ 0b1111) ⊎ (code ≡ 0b1110) ⊎ (code ≡ 0b1000)
+command-cases code h =
+    ⊎-elim
+    (λ two.
+    ⊎-elim (λ lo. inl (eqb-true code 0b1111 lo)) (λ fs. inr (inl (eqb-true code 0b1110 fs)))
+    (or-true (eqb code 0b1111) (eqb code 0b1110) two))
+    (λ ms. inr (inr (eqb-true code 0b1000 ms)))
+    (or-true (eqb code 0b1111 || eqb code 0b1110) (eqb code 0b1000) h)
+
+same-eq : (a b : Request) → same a b ≡ true → a ≡ b
+same-eq a b h =
+    let both = and-eq-true-iff (eqb (a .code) (b .code)) (eqb (a .channel) (b .channel)) .0 h in
+    let code : a .code ≡ b .code = eqb-true (a .code) (b .code) (both .0) in
+    let channel : a .channel ≡ b .channel = eqb-true (a .channel) (b .channel) (both .1) in
+    λ i. record { code = code i; channel = channel i }
+
+-- a request of the table that is a command: its number, and its rank
+pub record Command (n : ℕ) (x : Request) : Type 0 where
+  pub number : ℕ
+  pub known : number ≤ 4
+  pub fits : channelFits n number (x .channel) ≡ true
+  pub other : isClear number ≡ false
+  pub new : given number (x .channel) ≡ x
+  pub high : 3 ≤ rankOfRequest x
+
+module _ (n : ℕ) (x : Request) (carried : carries requests n (x .code) (x .channel) ≡ true) where
+  -- on a section, by the number and the code of the command
+  on-some : (k code : ℕ) → x .code ≡ code → k ≤ 4 → leb k 2 ≡ false → isClear k ≡ false
+      → given k (x .channel) ≡ request code (x .channel) → heldIn requests channel-0 code ≡ false
+      → 3 ≤ rankIn requests a-section code → Command n x
+  on-some k code e known above-2 other new never high =
+      let here : carries requests n code (x .channel) ≡ true = rw e at carried in
+      let some = on-section n code (x .channel) never here in
+      let most = carried-within requests n code (x .channel) here in
+      record {
+        number = k;
+        known = known;
+        fits = rw (above-2, le-leb 1 (x .channel) some, le-leb (x .channel) n most);
+        other = other;
+        new = new ∙ (λ i. record { code = sym e i; channel = x .channel });
+        high = rw (e, section-rank code (x .channel) some) high;
+      }
+
+  lock-out : x .code ≡ 0b1111 → Command n x
+  unfolding rankOf rankIn heldIn
+  lock-out e =
+      let zero : x .channel ≡ 0 = on-protection n 0b1111 (x .channel) refl (rw e at carried) in
+      record {
+        number = 2;
+        known = lit≤ tt;
+        fits = rw zero;
+        other = refl;
+        new = λ i. record { code = sym e i; channel = sym zero i };
+        high = rw (e, zero) (lit≤ tt);
+      }
+
+  pub a-command : isCommand (x .code) ≡ true → Command n x
+  unfolding rankIn heldIn
+  a-command h = go (command-cases (x .code) h)
+    where
+      go : (x .code ≡ 0b1111) ⊎ (x .code ≡ 0b1110) ⊎ (x .code ≡ 0b1000) → Command n x
+      go (inl lo) = lock-out lo
+      go (inr (inl fs)) = on-some 3 0b1110 fs (lit≤ tt) refl refl refl refl (lit≤ tt)
+      go (inr (inr ms)) = on-some 4 0b1000 ms (lit≤ tt) refl refl refl refl (lit≤ tt)
+
+-- the closed form for commands, taken apart
+pub commanded-by : (hold x : Request) → commanded hold (held x) ≡ true
+    → (isCommand (x .code) ≡ true) × ((x ≡ hold) ⊎ (taken hold x ≡ true))
+commanded-by hold x h = go (isCommand (x .code)) refl
+  where
+    go : (t : Bool) → isCommand (x .code) ≡ t → (isCommand (x .code) ≡ true) × ((x ≡ hold) ⊎ (taken hold x ≡ true))
+    go true e =
+        let sent : not (eqb (x .code) 0b0000) && (same x hold || taken hold x) ≡ true = rw e at h in
+        let which = and-eq-true-iff (not (eqb (x .code) 0b0000)) (same x hold || taken hold x) .0 sent .1 in
+        (e, ⊎-elim (λ s. inl (same-eq x hold s)) inr (or-true (same x hold) (taken hold x) which))
+    go false e = absurd (false≢true (rw e at h))
+
+-- and put together
+pub commanded-of : (hold x : Request) → isCommand (x .code) ≡ true → (x ≡ hold) ⊎ (taken hold x ≡ true)
+    → commanded hold (held x) ≡ true
+commanded-of hold x e how = rw e (rw (some, which how))
+  where
+    some : eqb (x .code) 0b0000 ≡ false
+    some = ne-eqb (x .code) 0b0000 (λ z. false≢true (rw z at e))
+
+    which : (x ≡ hold) ⊎ (taken hold x ≡ true) → same x hold || taken hold x ≡ true
+    which (inl is) =
+        let code : eqb (x .code) (hold .code) ≡ true = eq-eqb (x .code) (hold .code) (ap (λ (r : Request). r .code) is) in
+        let channel : eqb (x .channel) (hold .channel) ≡ true =
+        eq-eqb (x .channel) (hold .channel) (ap (λ (r : Request). r .channel) is) in
+        rw (code, channel)
+    which (inr takes) = rw takes (or-right (same x hold) true refl)
+
+-- what is held is a command, or NR 0; and so is what is given
+pub held-cases : (last : Request) → (held last ≡ noRequest) ⊎ (isCommand (held last .code) ≡ true)
+held-cases last = go (isCommand (last .code)) refl
+  where
+    go : (t : Bool) → isCommand (last .code) ≡ t → (held last ≡ noRequest) ⊎ (isCommand (held last .code) ≡ true)
+    go true e = inr (rw e e)
+    go false e = inl (rw e)
+
+pub given-cases : (command c : ℕ) → (given command c ≡ noRequest) ⊎ (isCommand (given command c .code) ≡ true)
+given-cases command c = go (eqb command 2) (eqb command 3) (eqb command 4) refl refl refl
+  where
+    go : (lo fs ms : Bool) → eqb command 2 ≡ lo → eqb command 3 ≡ fs → eqb command 4 ≡ ms
+        → (given command c ≡ noRequest) ⊎ (isCommand (given command c .code) ≡ true)
+    go true fs ms e f g = inr (rw e)
+    go false true ms e f g = inr (rw (e, f))
+    go false false true e f g = inr (rw (e, f, g))
+    go false false false e f g = inl (rw (e, f, g))
