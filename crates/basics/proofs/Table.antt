@@ -35,3 +35,7 @@ values f n = valuesFrom 0 f n
 
 pub entry-is : (f : ℕ → ℕ) (n k : ℕ) → k < n → getD (values f n) k 0 ≡ f k
 entry-is f n k h = value-from f n 0 k h ∙ ap f (zero-add k)
+
+-- two functions that compute to the same values have the same value at each place
+pub same-values : (f g : ℕ → ℕ) (n : ℕ) → values f n ≡ values g n → (k : ℕ) → k < n → f k ≡ g k
+same-values f g n e k h = sym (entry-is f n k h) ∙ ap (λ (list : List ℕ). getD list k 0) e ∙ entry-is g n k h

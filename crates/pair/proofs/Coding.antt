@@ -1,16 +1,18 @@
 -- Laws of decoding and encoding: each answer tells the numbers that it was made of, and the two undo each other.
 use mathlib.Core.Path.{_≡_, refl, sym, ap, _∙_}
-use mathlib.Core.Bool.{Bool, true, false, not, _&&_, and-eq-true-iff, false≢true}
+use mathlib.Core.Bool.{Bool, true, false, not, _&&_, _||_, and-eq-true-iff, false≢true}
+use mathlib.Core.List.{[], _∷_}
 use mathlib.Core.Logic.{_↔_}
-use Prim.Native.Nat.{ℕ, _+_, _*_, _/_, _≤_, _<_}
+use Prim.Native.Nat.{ℕ, _+_, _*_, _/_, _%_, _≤_, _<_}
 use native.Mathlib.Omega.{arith}
 use lib.Dec.{leb, ltb, eqb, lit<}
-use borrow.Author.Tests.{leb-true, ltb-false, eqb-true, eqb-false, ne-eqb, le-leb, le-ltb, not-false}
+use borrow.Author.Tests.{ltb-true, lt-leb, leb-true, ltb-false, eqb-true, eqb-false, ne-eqb, le-leb, le-ltb, not-false}
 use Rattle.basics.specs.Choice.{if_then_else_}
 use Rattle.basics.specs.Answer.{Answers}
 use Rattle.basics.proofs.One.{answers}
 use Rattle.basics.proofs.First.{CountedFrom, none-exact}
-use Rattle.pair.specs.Request.{requests, carries}
+use Rattle.basics.specs.First.{_when_, firstOf}
+use Rattle.pair.specs.Request.{requests, listed, carries}
 use Rattle.pair.specs.Marks.{codeOf, channelOf, bridgedOf, bit5, lineBits, faults, mark}
 use Rattle.pair.specs.Coder.{sectionsFit, decodingTold, decodingCase, decoding}
 use Rattle.pair.specs.Coder.{lineOf, encodingTold, encodingCase, encodable, encoding}
@@ -20,6 +22,7 @@ use Rattle.pair.specs.declared.Decoded.the-variants as decoded
 use Rattle.pair.specs.declared.Encoded.{Encoded}
 use Rattle.pair.specs.declared.Encoded.the-variants as encoded
 use Rattle.pair.proofs.Rows.{carried-below, carried-within, carried-listed}
+use Rattle.pair.proofs.Words.{bitIn, bit-in}
 
 decoding-whole : (n k1 k2 : ℕ) → decodingTold (decodingCase (decoding n k1 k2)) ≡ decoding n k1 k2
 unfolding decoding
@@ -255,3 +258,54 @@ encodable-exact n p fits = (forward, backward)
     backward some =
         let facts = usable-facts n (some .0) (some .1) p (some .4) in
         rw (facts .1) (pair-encodable n (some .0) (some .1) (facts .0))
+
+-- no check applies: the test of each but that of the code, since a code that carries a channel is listed
+on-line : (l c t : Bool) → (c ≡ true → l ≡ true)
+    → c && not t ≡ eqb (firstOf ((3 when not l) ∷ (4 when not c) ∷ (5 when t) ∷ [])) 0
+on-line true true true h = refl
+on-line true true false h = refl
+on-line true false t h = refl
+on-line false true t h = absurd (false≢true (h refl))
+on-line false false t h = refl
+
+no-mark : (z a b l c t : Bool) → (c ≡ true → l ≡ true)
+    → c && (not z && (a || b) && not t)
+    ≡ eqb (firstOf ((1 when z) ∷ (2 when not a && not b) ∷ (3 when not l) ∷ (4 when not c) ∷ (5 when t) ∷ [])) 0
+no-mark true a b l true t h = refl
+no-mark true a b l false t h = refl
+no-mark false false false l true t h = refl
+no-mark false false false l false t h = refl
+no-mark false true b l c t h = on-line l c t h
+no-mark false false true l c t h = on-line l c t h
+
+leb-not : (m n : ℕ) → leb m n ≡ not (ltb n m)
+leb-not m n = go (ltb n m) refl
+  where
+    go : (t : Bool) → ltb n m ≡ t → leb m n ≡ not (ltb n m)
+    go true e = rw e (lt-leb m n (ltb-true n m e))
+    go false e = rw e (le-leb m n (ltb-false n m e))
+
+-- the lower half of a K2 has bit 5, and line bits 000 or 110: one test, computed over the sixteen halves
+lowerFits : ℕ → Bool
+lowerFits half = not (eqb (half / 8) 0) && (eqb (half % 8) 0b000 || eqb (half % 8) 0b110)
+
+lower-word : (k2 : ℕ)
+    → eqb (bitIn 0b0100000100000000 (k2 % 16)) 1
+    ≡ not (eqb (bit5 k2) 0) && (eqb (lineBits k2) 0b000 || eqb (lineBits k2) 0b110)
+unfolding lowerFits
+lower-word k2 =
+    let five : k2 % 16 / 8 ≡ bit5 k2 = omega arith in
+    let line : k2 % 16 % 8 ≡ lineBits k2 = omega arith in
+    let word = bit-in lowerFits 0b0100000100000000 refl (k2 % 16) (omega arith) in
+    rw (five, line) at word
+
+pub usable-test : (n k1 k2 : ℕ)
+    → carries requests n (codeOf k1) (channelOf k1)
+    && (eqb (bitIn 0b0100000100000000 (k2 % 16)) 1 && leb (bridgedOf k2) n)
+    ≡ eqb (mark n k1 k2) 0
+unfolding mark
+usable-test n k1 k2 =
+    rw (lower-word k2, leb-not (bridgedOf k2) n)
+    (no-mark (eqb (bit5 k2) 0) (eqb (lineBits k2) 0b000) (eqb (lineBits k2) 0b110) (listed requests (codeOf k1))
+    (carries requests n (codeOf k1) (channelOf k1)) (ltb n (bridgedOf k2))
+    (carried-listed requests n (codeOf k1) (channelOf k1)))

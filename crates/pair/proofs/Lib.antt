@@ -1,5 +1,6 @@
 -- Laws for the crates above; Theorems is the front door.
 pub mod Rows
+mod Words
 pub mod Coding
 pub mod Ranks
 mod Theorems

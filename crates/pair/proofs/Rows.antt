@@ -69,7 +69,7 @@ held-listed (r ∷ rest) code =
     ∙ or-four (eqb code (r .code)) (holds (r .channels) channel-0) (holds (r .channels) a-section)
     (heldIn rest channel-0 code) (heldIn rest a-section code) (some-class (r .channels))
 
-and-true : (b : Bool) → b && true ≡ b
+pub and-true : (b : Bool) → b && true ≡ b
 and-true true = refl
 and-true false = refl
 

@@ -23,6 +23,12 @@ use Rattle.pair.proofs.encode.Kinds as encode-kinds
 use Rattle.pair.proofs.encode.Reads as encode
 use Rattle.pair.proofs.request.rank.Kinds as rank-kinds
 use Rattle.pair.proofs.request.rank.Reads as rank
+use Rattle.pair.proofs.request.packed_rank.Kinds as packed-rank-kinds
+use Rattle.pair.proofs.request.packed_rank.Reads as packed-rank
+use Rattle.pair.proofs.request.carries.Kinds as carries-kinds
+use Rattle.pair.proofs.request.carries.Reads as carries
+use Rattle.pair.proofs.mark.usable.Kinds as usable-kinds
+use Rattle.pair.proofs.mark.usable.Reads as usable
 
 -- Decoding a usable pair and encoding the record gives the pair back.
 pair-right : (n k1 k2 : ℕ) (p : Pair) → decodingCase (decoding n k1 k2) ≡ decoded.Usable p
@@ -75,3 +81,13 @@ encode-unique κs args x y s t p q = one-case p q
 
 rank-unique : OneAnswer 0 rank-kinds.ps rank-kinds.r rank.Post
 rank-unique κs args x y s t p q = one-value p q
+
+-- So it is for what is open to the crates above alone: `packed_rank`, `carries`, `usable`.
+shared-unique : OneAnswer 0 packed-rank-kinds.ps packed-rank-kinds.r packed-rank.Post
+    × OneAnswer 0 carries-kinds.ps carries-kinds.r carries.Post
+    × OneAnswer 0 usable-kinds.ps usable-kinds.r usable.Post
+shared-unique = (
+  λ κs args x y s t p q. one-value p q,
+  λ κs args x y s t p q. one-value p q,
+  λ κs args x y s t p q. one-value p q,
+)

@@ -1,5 +1,5 @@
 // The coder of the K1/K2 bytes (01, 'The byte pair'; G.841, Tables 7-1 and 7-2).
-mod mark;
+pub mod mark;
 pub mod request;
 
 use crate::mark::mark_of;

@@ -2,6 +2,7 @@
 use crate::request::carries;
 use crate::request::listed;
 ghost use Rattle.pair.specs.Marks.{mark};
+ghost use lib.Dec.{eqb};
 ghost use mathlib.Core.Path.{_≡_};
 
 pub(crate) fn mark_of(n: u8, k1: u8, k2: u8) -> u8
@@ -27,4 +28,15 @@ pub(crate) fn mark_of(n: u8, k1: u8, k2: u8) -> u8
         return 5;
     }
     0
+}
+
+// The lower halves of a usable K2, a bit for each: bit 5 and line bits 000, bit 5 and line bits 110.
+const LOWER_HALVES: u16 = 1 << 0b1000 | 1 << 0b1110;
+
+// Whether there is no mark. Which it is costs a branch for each of the checks.
+pub fn usable(n: u8, k1: u8, k2: u8) -> bool
+    ensures { λ r. ⌜ r ≡ eqb (mark n k1 k2) 0 ⌝ }
+{
+    let second_fits = ((LOWER_HALVES >> (k2 % 16)) % 2 == 1) & (k2 / 16 <= n);
+    carries(n, k1 / 16, k1 % 16) & second_fits
 }

@@ -9,8 +9,16 @@ const RANKS_OF_CHANNEL_0: [u8; 16] = [0, 0, 0, 0, 0, 0, 0, 0, 0, 0, 0, 5, 0, 9, 
 
 const RANKS_OF_SECTIONS: [u8; 16] = [0, 0, 0, 0, 0, 0, 2, 0, 3, 0, 4, 5, 6, 7, 8, 0];
 
-// The channels that a code may carry: 1 for channel 0, 2 for the sections, 3 for both, 0 for a code in no row.
-const CHANNELS: [u8; 16] = [1, 0, 3, 0, 0, 0, 2, 0, 2, 0, 2, 3, 2, 3, 2, 1];
+// The same ranks in a word, four bits for each code. Where each is looked up once a step, as by the judge, a word costs
+// less than a table.
+const PACKED_OF_CHANNEL_0: u64 = 0xA090_5000_0000_0000;
+
+const PACKED_OF_SECTIONS: u64 = 0x0876_5403_0200_0000;
+
+// A bit for each code that channel 0 may go with, and for each that a section may.
+const WITH_CHANNEL_0: u16 = 0b1010_1000_0000_0101;
+
+const WITH_SECTIONS: u16 = 0b0111_1101_0100_0100;
 
 pub fn rank(code: u8, channel: u8) -> u8
     ensures { λ r. ⌜ r ≡ rankOf code channel ⌝ }
@@ -26,6 +34,21 @@ pub fn rank(code: u8, channel: u8) -> u8
     }
 }
 
+pub fn packed_rank(code: u8, channel: u8) -> u8
+    ensures { λ r. ⌜ r ≡ rankOf code channel ⌝ }
+{
+    if code < CODES {
+        let ranks = if channel == 0 {
+            PACKED_OF_CHANNEL_0
+        } else {
+            PACKED_OF_SECTIONS
+        };
+        ((ranks >> (4 * code)) % 16) as u8
+    } else {
+        0
+    }
+}
+
 // With one section, a code in some row carries channel 0 or channel 1.
 pub(crate) fn listed(code: u8) -> bool
     ensures { λ r. ⌜ r ≡ listed requests code ⌝ }
@@ -33,16 +56,16 @@ pub(crate) fn listed(code: u8) -> bool
     carries(1, code, 0) | carries(1, code, 1)
 }
 
-pub(crate) fn carries(n: u8, code: u8, channel: u8) -> bool
+pub fn carries(n: u8, code: u8, channel: u8) -> bool
     ensures { λ r. ⌜ r ≡ carries requests n code channel ⌝ }
 {
     if code < CODES {
-        let channels = CHANNELS[code as usize];
-        if channel == 0 {
-            channels % 2 == 1
+        let codes = if channel == 0 {
+            WITH_CHANNEL_0
         } else {
-            (2 <= channels) & (channel <= n)
-        }
+            WITH_SECTIONS
+        };
+        ((codes >> code) % 2 == 1) & (channel <= n)
     } else {
         false
     }
