@@ -1,21 +1,19 @@
 // Refusals 1 to 7 (01, 'Numbered refusals').
 use crate::Controller;
-use crate::acceptance::mark_in;
 use crate::codes::DEGRADE_HIGH;
 use crate::codes::DEGRADE_LOW;
 use crate::codes::FAIL_HIGH;
 use crate::codes::FAIL_LOW;
 use crate::section::high;
 use crate::wait::is_wait;
-use pair::decode;
+use pair::mark::usable;
+use pair::request::carries;
 use pair::sections_fit;
 ghost use Rattle.basics.specs.First.{firstOf};
 ghost use Rattle.controller.specs.Refusals.{otherPriority, againstMask, waitFits, acceptable};
 ghost use Rattle.controller.specs.Refusals.{conditionsFit, channelFits, refusal};
 ghost use Rattle.controller.specs.Settings.{maskFits, settingsFaults};
 ghost use Rattle.pair.specs.Coder.{sectionsFit};
-ghost use Rattle.pair.specs.Marks.{mark};
-ghost use lib.Dec.{eqb};
 ghost use mathlib.Core.Bool.{true};
 ghost use mathlib.Core.Path.{_≡_};
 
@@ -38,13 +36,6 @@ pub(crate) fn settings_refusal(n: u8, mask: u16) -> u8
         return 2;
     }
     0
-}
-
-fn usable(n: u8, k1: u8, k2: u8) -> bool
-    requires { ⌜ sectionsFit n ≡ true ⌝ }
-    ensures { λ r. ⌜ r ≡ eqb (mark n k1 k2) 0 ⌝ }
-{
-    mark_in(decode(n, k1, k2)) == 0
 }
 
 fn other_priority(first: bool, code: u8) -> bool
@@ -74,13 +65,12 @@ fn wait_fits(code: u8, w: u16, left: u16) -> bool
 }
 
 fn acceptable(s: Controller) -> bool
-    requires { ⌜ sectionsFit (s .n) ≡ true ⌝ }
     ensures { λ r. ⌜ r ≡ acceptable s ⌝ }
 {
     let code = s.sent / 16;
     let channel = s.sent % 16;
     let pair_usable = usable(s.n, s.k1, s.k2);
-    let in_table = usable(s.n, s.sent, Controller::IDLE_K2);
+    let in_table = carries(s.n, code, channel);
     let against = against_mask(s.mask, code, channel);
     let wait_good = wait_fits(code, s.w, s.left);
     pair_usable & in_table & !against & wait_good

@@ -9,17 +9,15 @@ ghost use Rattle.controller.specs.Rules.{failCode, degradeCode, conditio
 ghost use Rattle.controller.specs.Settings.{high};
 ghost use mathlib.Core.Path.{_≡_};
 
+// Section 0's bit stands below those of the mask.
 pub(crate) fn high(mask: u16, c: u8) -> bool
     ensures { λ r. ⌜ r ≡ high mask c ⌝ }
 {
-    if c == 0 {
-        return true;
+    if c <= 16 {
+        ((2 * (mask as u32) + 1) >> c) % 2 == 1
+    } else {
+        false
     }
-    // past the mask's 16 bits
-    if 16 < c {
-        return false;
-    }
-    (mask >> (c - 1)) % 2 == 1
 }
 
 fn fail_code(first: bool) -> u8

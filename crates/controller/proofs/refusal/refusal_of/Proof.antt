@@ -7,7 +7,7 @@ use borrow.Author.Tests.{eq-eqb, ne-eqb, lt-ltb, le-ltb}
 use Rattle.basics.specs.Choice.{if_then_else_}
 use Rattle.basics.specs.First.{firstOf}
 use Rattle.controller.specs.Refusals.{faults, refusal}
-use Rattle.controller.proofs.Inputs.{refusal-by-settings, settings-fit}
+use Rattle.controller.proofs.Inputs.{refusal-by-settings}
 use borrow.Author.Needs.{needs}
 use Rattle.controller.proofs.refusal.refusal_of.Statement.{statement}
 use Rattle.controller.proofs.refusal.refusal_of.Tie as tie
@@ -56,9 +56,7 @@ returns c =
     sym (by-settings (c .before) ∙ simp (ne-eqb (c .before .settings-refusal .result) 0 (c .if1 .taken)))
 
 acceptable-requires : tie.Need-acceptable-requires
-acceptable-requires c κs =
-    let a = c .before .before .before .args in
-    settings-fit (a .s .n) (a .s .mask) (rw (← c .before .settings-refusal .ensures) (c .if1 .left)) .0
+acceptable-requires c κs = search needs
 
 returns-2 : tie.Need-returns-2
 returns-2 c = sym (left-1 (c .before .before) ∙ simp (c .if2 .taken, ← c .before .acceptable .ensures))
