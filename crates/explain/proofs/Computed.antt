@@ -13,7 +13,7 @@ use Rattle.controller.specs.Settings.{fresh}
 use Rattle.explain.specs.Verdict.{Judging, sizeFaults, Right}
 use Rattle.explain.specs.Lines.{Line, _is_, lines, Hold}
 use Rattle.explain.specs.Cause.{arises, unseen, answers}
-use Rattle.explain.specs.Trace.{traced, next, scanned}
+use Rattle.explain.specs.Trace.{next, scanned}
 use Rattle.explain.proofs.Judged.{scanned-right}
 
 alike : Judging → Judging → Bool
@@ -34,7 +34,7 @@ abbrev gives : Line → Bool
 gives (bytes is j) = eqb (firstOf (sizeFaults (length bytes))) 0 && alike (scanned (fresh 2 0 3) bytes) j
 
 table : every gives lines ≡ true
-unfolding alike next traced arises unseen answers mark carries listed rankOf rankIn
+unfolding alike next arises unseen answers mark carries listed rankOf rankIn
 table = refl
 
 hold : (some : List Line) → every gives some ≡ true → Hold some

@@ -1,4 +1,4 @@
--- Theorems is the front door; the rest are the laws behind it.
+-- Theorems is the front door; the rest are the laws behind it, one of them for the door for C and Rust too.
 mod Scanning
 mod Ranking
 mod Single
@@ -8,7 +8,7 @@ mod Source
 mod OneStep
 mod Reached
 mod Possible
-mod Exact
+pub mod Exact
 mod Walking
 mod Judged
 mod Computed

@@ -1,11 +1,13 @@
 -- The two flags hold the set of records that some causes can have reached, no more and no less.
-use mathlib.Core.Path.{_≡_, refl, sym, subst}
+use mathlib.Core.Path.{_≡_, refl, sym, subst, _∙_}
 use mathlib.Core.Bool.{Bool, true, false, _&&_, _||_, and-eq-true-iff, false≢true}
 use mathlib.Core.Logic.{_↔_, _⊎_, inl, inr, ⊎-elim}
 use Prim.Native.Nat.{ℕ}
 use lib.Dec.{eqb}
 use Rattle.basics.specs.Choice.{if_then_else_}
+use Rattle.pair.specs.Request.{requests, carries}
 use Rattle.pair.specs.Marks.{mark}
+use Rattle.pair.proofs.Rows.{and-true}
 use Rattle.request.specs.declared.Request.{Request}
 use Rattle.request.proofs.Order.{or-true, or-right}
 use Rattle.controller.specs.Settings.{idleK1, idleK2}
@@ -14,9 +16,9 @@ use Rattle.controller.specs.Step.{waitOf}
 use Rattle.controller.specs.declared.Controller.{Controller}
 use Rattle.explain.specs.Capture.{Row}
 use Rattle.explain.specs.Explained.{Cause, stepped, Sends}
-use Rattle.explain.specs.Trace.{idled, live, lost, opens, localIn, hiddenIn, recordAfter, traced, next}
+use Rattle.explain.specs.Trace.{idled, live, opens, localIn, hiddenIn, recordAfter, standing, next}
 use Rattle.explain.specs.declared.Records.{Records}
-use Rattle.explain.proofs.Reached.{Able, standing, Reached, far-standing, sends-reached, reached-sends}
+use Rattle.explain.proofs.Reached.{Able, Reached, far-standing, sends-reached, reached-sends}
 
 -- the records that the flags leave open
 abbrev pub In : Records → Controller → Type 0
@@ -66,26 +68,27 @@ module _ (d : Records) (r : Row) where
   kept =
       record {
         controller = after (base .k1) (base .k2);
-        heard = d .heard && opened (base .k1);
-        idle = d .idle && opened idleK1 || hidden;
+        heard = opened (base .k1) && d .heard;
+        idle = opened idleK1 && d .idle || hidden;
       }
 
   abbrev sendable : Bool
-  sendable = eqb (mark (base .n) (r .sentK1) (r .sentK2)) 0
+  sendable = carries requests (base .n) (x .code) (x .channel)
 
   abbrev usable : Bool
   usable = eqb (mark (base .n) (r .k1) (r .k2)) 0
 
-  next-lost : sendable ≡ false → next d r ≡ lost base
+  -- nothing is left
+  next-lost : sendable ≡ false → (next d r .heard ≡ false) × (next d r .idle ≡ false)
   unfolding next
-  next-lost e = rw e
+  next-lost e = (rw e, rw e)
 
   next-taken : sendable ≡ true → usable ≡ true → next d r ≡ taken
-  unfolding next traced
-  next-taken e f = rw (e, f)
+  unfolding next
+  next-taken e f = rw (e, f, and-true (opened (r .k1)))
 
   next-kept : sendable ≡ true → usable ≡ false → next d r ≡ kept
-  unfolding next traced
+  unfolding next
   next-kept e f = rw (e, f)
 
   module _ (good : (s : Controller) → In d s → Able s) where
@@ -120,14 +123,14 @@ module _ (d : Records) (r : Row) where
 
     into-kept : live d ≡ true → sendable ≡ true → usable ≡ false → (u : Controller) → In kept u → From u
     into-kept alive fits f u (inl (h, k)) =
-        let both = and-eq-true-iff (d .heard) (opened (base .k1)) .0 h in
-        by-standing (base .k1) (base .k2) (inl (both .0, refl)) false f fits u (both .1) k
+        let both = and-eq-true-iff (opened (base .k1)) (d .heard) .0 h in
+        by-standing (base .k1) (base .k2) (inl (both .1, refl)) false f fits u (both .0) k
     into-kept alive fits f u (inr (h, k)) =
         ⊎-elim
         (λ e.
-        let both = and-eq-true-iff (d .idle) (opened idleK1) .0 e in
-        by-standing idleK1 idleK2 (inr (both .0, refl)) false f fits u (both .1) k)
-        (λ e. from-some alive (λ k1 k2 i. by-hidden k1 k2 i fits e u k)) (or-true (d .idle && opened idleK1) hidden h)
+        let both = and-eq-true-iff (opened idleK1) (d .idle) .0 e in
+        by-standing idleK1 idleK2 (inr (both .1, refl)) false f fits u (both .0) k)
+        (λ e. from-some alive (λ k1 k2 i. by-hidden k1 k2 i fits e u k)) (or-true (opened idleK1 && d .idle) hidden h)
 
     -- what a row that is sent leaves, by whether the received pair is usable
     abbrev behind : Bool → Records
@@ -135,7 +138,7 @@ module _ (d : Records) (r : Row) where
 
     hidden-in : (t : Bool) (u : Controller) → hidden ≡ true → u ≡ after idleK1 idleK2 → In (behind t) u
     hidden-in true u h k = inr (h, k)
-    hidden-in false u h k = inr (rw h (or-right (d .idle && opened idleK1) true refl), k)
+    hidden-in false u h k = inr (rw h (or-right (opened idleK1 && d .idle) true refl), k)
 
     -- the flag that a record is left by goes on
     heard-in : (t : Bool) (u : Controller) → d .heard ≡ true → opened (standing t (r .k1) (base .k1)) ≡ true
@@ -176,9 +179,8 @@ module _ (d : Records) (r : Row) where
         forward true true e f i = into-taken alive e f u (subst (λ (m : Records). In m u) (next-taken e f) i)
         forward true false e f i = into-kept alive e f u (subst (λ (m : Records). In m u) (next-kept e f) i)
         forward false b e f i =
-            absurd
-            (⊎-elim (λ h. false≢true (h .0)) (λ h. false≢true (h .0))
-            (subst (λ (m : Records). In m u) (next-lost e) i))
+            let none = next-lost e in
+            absurd (⊎-elim (λ h. false≢true (sym (none .0) ∙ h .0)) (λ h. false≢true (sym (none .1) ∙ h .0)) i)
 
         backward : (b : Bool) → usable ≡ b → From u → In (next d r) u
         backward true f from =

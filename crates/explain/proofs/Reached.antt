@@ -1,17 +1,17 @@
 -- From requests to bytes: the records that a controller can have after a row, by the closed forms over the row's bytes.
 use mathlib.Core.Path.{_≡_, refl, sym, ap, subst, _∙_}
-use mathlib.Core.Bool.{Bool, true, false, not, _&&_, and-eq-true-iff}
+use mathlib.Core.Bool.{Bool, true, false, _&&_, and-eq-true-iff}
 use mathlib.Core.Logic.{_⊎_, inl, inr, ⊎-elim}
 use Prim.Native.Nat.{ℕ, _+_}
 use native.Mathlib.Omega.{arith}
 use lib.Dec.{eqb}
 use lib.ListN.{length}
-use borrow.Author.Tests.{eqb-true, eq-eqb, le-leb, not-true}
+use borrow.Author.Tests.{eqb-true, eq-eqb, le-leb}
 use Rattle.basics.specs.Choice.{if_then_else_}
 use Rattle.pair.specs.Request.{requests, carries}
-use Rattle.pair.specs.Marks.{codeOf, channelOf, bridgedOf, lineBits, mark}
+use Rattle.pair.specs.Marks.{codeOf, channelOf, mark}
 use Rattle.pair.specs.Coder.{sectionsFit}
-use Rattle.pair.proofs.Coding.{UsablePair, unmarked}
+use Rattle.pair.proofs.Coding.{unmarked}
 use Rattle.request.specs.Bridge.{bridge}
 use Rattle.request.specs.declared.Request.{Request}
 use Rattle.request.proofs.Channels.{bridge-within}
@@ -29,7 +29,7 @@ use Rattle.controller.proofs.Keeping.{k1-back, not-refused, step-keeps, step-ta
 use Rattle.explain.specs.Capture.{Row}
 use Rattle.explain.specs.Explained.{Cause, stepped, Sends}
 use Rattle.explain.specs.Cause.{commanded, unseen, answers}
-use Rattle.explain.specs.Trace.{secondFits, opens, localIn, hiddenIn, recordAfter}
+use Rattle.explain.specs.Trace.{secondFits, opens, localIn, hiddenIn, recordAfter, standing}
 use Rattle.explain.proofs.Local.{wait-unclear, nearOf}
 use Rattle.explain.proofs.OneStep.{Caused, one-step, one-hidden-step}
 
@@ -49,29 +49,8 @@ able-next s cause r a sends =
       accepts = k .accepts;
     }
 
--- the line bits and the bridge of a K2 that is sent
-second-sent : (k2 b : ℕ) → k2Of b ≡ k2 → secondFits k2 b ≡ true
-second-sent k2 b e =
-    let high : bridgedOf k2 ≡ b = omega arith in
-    let low : lineBits k2 ≡ 0 = omega arith in
-    let plain : eqb (lineBits k2) 0b110 ≡ false = rw low in
-    rw (eq-eqb (bridgedOf k2) b high, plain)
-
-second-back : (n k1 k2 b : ℕ) → UsablePair n k1 k2 → secondFits k2 b ≡ true → k2Of b ≡ k2
-second-back n k1 k2 b u h =
-    let both = and-eq-true-iff (eqb (bridgedOf k2) b) (not (eqb (lineBits k2) 0b110)) .0 h in
-    let high : bridgedOf k2 ≡ b = eqb-true (bridgedOf k2) b (both .0) in
-    let plain : eqb (lineBits k2) 0b110 ≡ false = not-true (eqb (lineBits k2) 0b110) (both .1) in
-    let low : 0 ≡ lineBits k2 = rw plain at (u .line) in
-    let one = u .one in
-    omega arith
-
 k1-whole : (k1 : ℕ) → k1Of (asked k1) ≡ k1
 k1-whole k1 = omega arith
-
--- a byte of the pair that stands: the received one's, if that is usable
-abbrev pub standing : Bool → ℕ → ℕ → ℕ
-standing usable received before = if usable then received else before
 
 module _ (s : Controller) (r : Row) (able : Able s) where
   abbrev last : Request
@@ -133,7 +112,7 @@ module _ (s : Controller) (r : Row) (able : Able s) where
   -- the records after the row: with 00 08 accepted under a failed section 0, or with the pair that stands
   abbrev pub Reached : Controller → Type 0
   Reached u =
-      (eqb (mark (s .n) (r .sentK1) (r .sentK2)) 0 ≡ true)
+      (carries requests (s .n) (x .code) (x .channel) ≡ true)
       × (((hiddenIn s x (r .sentK2) ≡ true) × (u ≡ recordAfter s now0 idleK1 idleK2 (r .sentK1)))
       ⊎ ((opens (farK1 false) x (r .sentK2) (localIn s x) ≡ true)
       × (u ≡ recordAfter s now0 (farK1 false) (farK2 false) (r .sentK1))))
@@ -240,8 +219,7 @@ module _ (s : Controller) (r : Row) (able : Able s) where
         → secondFits (r .sentK2) (bridge (far t .channel) (x .channel) (keepsBridge x)) ≡ true
     second-is t e =
         let k2 = sym (answered .second) ∙ sends .second in
-        let here =
-        second-sent (r .sentK2) (bridge (far failed .channel) (sent .channel) (keepsBridge sent)) k2 in
+        let here = eq-eqb (r .sentK2) (k2Of (bridge (far failed .channel) (sent .channel) (keepsBridge sent))) (sym k2) in
         subst (λ (b : Bool). secondFits (r .sentK2) (bridge (far b .channel) (x .channel) (keepsBridge x)) ≡ true) e
         (subst
         (λ (y : Request). secondFits (r .sentK2) (bridge (far failed .channel) (y .channel) (keepsBridge y)) ≡ true)
@@ -276,7 +254,7 @@ module _ (s : Controller) (r : Row) (able : Able s) where
   pub sends-reached : (cause : Cause) → Sends (stepped s cause r) r → Reached (stepped s cause r .controller)
   unfolding accepting
   sends-reached cause sends =
-      (eq-eqb (mark (s .n) (r .sentK1) (r .sentK2)) 0 (usable cause sends), go (failed cause sends) refl)
+      (carried cause sends, go (failed cause sends) refl)
     where
       carry : carries requests (s .n) (x .code) (x .channel) ≡ true
       carry = carried cause sends
@@ -306,59 +284,54 @@ module _ (s : Controller) (r : Row) (able : Able s) where
   Some u = (cause : Cause) × Sends (stepped s cause r) r × (u ≡ stepped s cause r .controller)
 
   -- and each of them is left by some cause
-  module _ (pair : UsablePair (s .n) (r .sentK1) (r .sentK2)) where
-    caused-sends : (t : Bool) → Caused (s .n) (s .mask) (s .w) (s .left) last t (far t) (held last) (held x) x
-        → secondFits (r .sentK2) (bridge (far t .channel) (x .channel) (keepsBridge x)) ≡ true
-        → Some (recordAfter s now0 (farK1 t) (farK2 t) (r .sentK1))
-    caused-sends t by fits = (cause, sends, sym (record-is cause sends t (by .protects)))
-      where
-        cause : Cause
-        cause = record { conditions = by .conditions; command = by .command; channel = by .channel }
+  caused-sends : (t : Bool) → Caused (s .n) (s .mask) (s .w) (s .left) last t (far t) (held last) (held x) x
+      → secondFits (r .sentK2) (bridge (far t .channel) (x .channel) (keepsBridge x)) ≡ true
+      → Some (recordAfter s now0 (farK1 t) (farK2 t) (r .sentK1))
+  caused-sends t by fits = (cause, sends, sym (record-is cause sends t (by .protects)))
+    where
+      cause : Cause
+      cause = record { conditions = by .conditions; command = by .command; channel = by .channel }
 
-        taken : stepped s cause r .refusal ≡ 0
-        taken =
-            let f = by .fits in
-            let number = eq-eqb (length (by .conditions)) (s .n + 1) (f .number) in
-            step-taken s (r .k1) (r .k2) (by .conditions) (by .command) (by .channel) (able .fits) (able .mask-fits)
-            (able .accepts) (rw (number, f .conditions-fit, le-leb (by .command) 4 (f .command-fits), f .channel-fits))
+      taken : stepped s cause r .refusal ≡ 0
+      taken =
+          let f = by .fits in
+          let number = eq-eqb (length (by .conditions)) (s .n + 1) (f .number) in
+          step-taken s (r .k1) (r .k2) (by .conditions) (by .command) (by .channel) (able .fits) (able .mask-fits)
+          (able .accepts) (rw (number, f .conditions-fit, le-leb (by .command) 4 (f .command-fits), f .channel-fits))
 
-        sends : Sends (stepped s cause r) r
-        sends =
-            let answered = step-is cause t (by .protects) taken in
-            record {
-              taken = taken;
-              first = answered .first ∙ ap k1Of (by .sends) ∙ k1-whole (r .sentK1);
-              second =
-                  answered .second
-                  ∙ ap (λ (y : Request). k2Of (bridge (far t .channel) (y .channel) (keepsBridge y))) (by .sends)
-                  ∙ second-back (s .n) (r .sentK1) (r .sentK2) (bridge (far t .channel) (x .channel) (keepsBridge x)) pair fits;
-            }
+      sends : Sends (stepped s cause r) r
+      sends =
+          let answered = step-is cause t (by .protects) taken in
+          record {
+            taken = taken;
+            first = answered .first ∙ ap k1Of (by .sends) ∙ k1-whole (r .sentK1);
+            second =
+                answered .second
+                ∙ ap (λ (y : Request). k2Of (bridge (far t .channel) (y .channel) (keepsBridge y))) (by .sends)
+                ∙ sym (eqb-true (r .sentK2) (k2Of (bridge (far t .channel) (x .channel) (keepsBridge x))) fits);
+          }
 
   pub reached-sends : (u : Controller) → Reached u → Some u
   unfolding accepting
-  reached-sends u (fits, how) =
-      let pair =
-      unmarked (s .n) (r .sentK1) (r .sentK2) (able .fits)
-      (eqb-true (mark (s .n) (r .sentK1) (r .sentK2)) 0 fits) in
-      ⊎-elim (λ h. subst Some (sym (h .1)) (hides pair (h .0))) (λ h. subst Some (sym (h .1)) (opened pair (h .0))) how
+  reached-sends u (carry, how) =
+      ⊎-elim (λ h. subst Some (sym (h .1)) (hides (h .0))) (λ h. subst Some (sym (h .1)) (opened (h .0))) how
     where
-      hides : UsablePair (s .n) (r .sentK1) (r .sentK2) → hiddenIn s x (r .sentK2) ≡ true
-          → Some (recordAfter s now0 idleK1 idleK2 (r .sentK1))
-      hides pair h =
+      hides : hiddenIn s x (r .sentK2) ≡ true → Some (recordAfter s now0 idleK1 idleK2 (r .sentK1))
+      hides h =
           let both = and-eq-true-iff (unseen (commanded (held last) (held x)) x) (secondFits (r .sentK2) 0) .0 h in
           let by =
-          one-hidden-step (s .n) (s .mask) (s .w) (s .left) last (held last) (held x) x (pair .carried) .0
+          one-hidden-step (s .n) (s .mask) (s .w) (s .left) last (held last) (held x) x carry .0
           record { before = refl; possible = both .0; afterwards = refl } in
-          caused-sends pair true by (rw (bridge-none (x .channel) (keepsBridge x)) (both .1))
+          caused-sends true by (rw (bridge-none (x .channel) (keepsBridge x)) (both .1))
 
-      opened : UsablePair (s .n) (r .sentK1) (r .sentK2) → opens (farK1 false) x (r .sentK2) local ≡ true
+      opened : opens (farK1 false) x (r .sentK2) local ≡ true
           → Some (recordAfter s now0 (farK1 false) (farK2 false) (r .sentK1))
-      opened pair h =
+      opened h =
           let here = subst OpenBy (sym (far-asked false)) h in
           let both =
           and-eq-true-iff (answers (far false) x local)
           (secondFits (r .sentK2) (bridge (far false .channel) (x .channel) (keepsBridge x))) .0 here in
           let by =
-          one-step (s .n) (s .mask) (s .w) (s .left) last (far false) (held last) (held x) x (pair .carried) .0
+          one-step (s .n) (s .mask) (s .w) (s .left) last (far false) (held last) (held x) x carry .0
           record { before = refl; possible = both .0; afterwards = refl } in
-          caused-sends pair false by (both .1)
+          caused-sends false by (both .1)

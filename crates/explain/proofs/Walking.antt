@@ -1,19 +1,16 @@
 -- The walk over a capture's bytes: what is left to scan gives the verdict of the whole.
 use mathlib.Core.Path.{_≡_, refl, sym, ap, _∙_}
-use mathlib.Core.Bool.{Bool, true, false}
+use mathlib.Core.Bool.{true, false}
 use mathlib.Core.List.{List, _∷_}
 use Prim.Native.Nat.{ℕ, suc, _+_, _*_, _-_, _%_, _≤_, _<_, zero-le}
 use native.Mathlib.Numerals.{add-one}
 use native.Mathlib.Omega.{arith}
-use lib.Dec.{eqb}
 use lib.ListN.{length, getD, drop, drop-of-length-le}
 use lib.Seq.{drop-cons}
-use Rattle.pair.specs.Marks.{mark}
-use Rattle.pair.specs.Coder.{sectionsFit}
 use Rattle.explain.specs.Capture.{Row, row, rowsOf}
 use Rattle.explain.specs.Verdict.{explainedAt, unexplainedAt, most}
 use Rattle.explain.specs.Scan.{scanFrom}
-use Rattle.explain.specs.Trace.{live, traced, next, verdictOf}
+use Rattle.explain.specs.Trace.{live, next, verdictOf}
 use Rattle.explain.specs.declared.Records.{Records}
 
 -- at a step, behind the bytes of those before it
@@ -22,27 +19,14 @@ pub record Walk (bytes : List ℕ) (begin possible : Records) (step at : ℕ) : 
   pub within : at ≤ length bytes
   pub whole : length bytes % 4 ≡ 0
   pub small : length bytes ≤ most
-  pub fits : sectionsFit (possible .controller .n) ≡ true
   pub remains :
       verdictOf (scanFrom next live step possible (rowsOf (drop at bytes)))
       ≡ verdictOf (scanFrom next live 0 begin (rowsOf bytes))
 
-pub walk-start : (bytes : List ℕ) (begin : Records) → sectionsFit (begin .controller .n) ≡ true → length bytes % 4 ≡ 0
+pub walk-start : (bytes : List ℕ) (begin : Records) → length bytes % 4 ≡ 0
     → length bytes ≤ most → Walk bytes begin begin 0 0
-walk-start bytes begin fits whole small =
-    record { place = refl; within = zero-le; whole = whole; small = small; fits = fits; remains = refl }
-
--- the settings stay
-next-sections : (d : Records) (r : Row) → next d r .controller .n ≡ d .controller .n
-unfolding next traced
-next-sections d r =
-    go (eqb (mark (d .controller .n) (r .sentK1) (r .sentK2)) 0) (eqb (mark (d .controller .n) (r .k1) (r .k2)) 0) refl refl
-  where
-    go : (a b : Bool) → eqb (mark (d .controller .n) (r .sentK1) (r .sentK2)) 0 ≡ a
-        → eqb (mark (d .controller .n) (r .k1) (r .k2)) 0 ≡ b → next d r .controller .n ≡ d .controller .n
-    go true true e f = rw (e, f)
-    go true false e f = rw (e, f)
-    go false b e f = rw e
+walk-start bytes begin whole small =
+    record { place = refl; within = zero-le; whole = whole; small = small; remains = refl }
 
 module _ {bytes : List ℕ} {begin possible : Records} {step at : ℕ} (w : Walk bytes begin possible step at) where
   abbrev here : Row
@@ -103,7 +87,6 @@ module _ {bytes : List ℕ} {begin possible : Records} {step at : ℕ} (w : Walk
         within = whole-step h;
         whole = w .whole;
         small = w .small;
-        fits = rw (next-sections possible here) (w .fits);
         remains =
             ap (λ (k : ℕ). verdictOf (scanFrom next live k (next possible here) rest)) (add-one step)
             ∙ (rw goes at (step-here h));

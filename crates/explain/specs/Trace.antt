@@ -5,11 +5,12 @@ use mathlib.Core.List.{List}
 use Prim.Native.Nat.{ℕ}
 use lib.Dec.{eqb}
 use Rattle.basics.specs.Choice.{if_then_else_}
-use Rattle.pair.specs.Marks.{channelOf, bridgedOf, lineBits, mark}
+use Rattle.pair.specs.Request.{requests, carries}
+use Rattle.pair.specs.Marks.{channelOf, mark}
 use Rattle.request.specs.Bridge.{bridge}
 use Rattle.request.specs.declared.Request.{Request}
 use Rattle.controller.specs.Settings.{idleK1, idleK2}
-use Rattle.controller.specs.Rules.{asked, held, leftAfter, keepsBridge}
+use Rattle.controller.specs.Rules.{asked, held, leftAfter, keepsBridge, k2Of}
 use Rattle.controller.specs.Step.{waitOf}
 use Rattle.controller.specs.declared.Controller.{Controller}
 use Rattle.explain.specs.Capture.{Row, rowsOf}
@@ -17,6 +18,7 @@ use Rattle.explain.specs.Cause.{commanded, arises, unseen, answers}
 use Rattle.explain.specs.Scan.{Scanned, all, first, scanFrom}
 use Rattle.explain.specs.Verdict.{Judging, explainedAt, unexplainedAt}
 use Rattle.explain.specs.declared.Records.{Records}
+use Rattle.explain.specs.declared.Seen.{Seen}
 
 -- the record with 00 08 accepted
 abbrev pub idled : Controller → Controller
@@ -29,13 +31,9 @@ start s = record { controller = s; heard = true; idle = false }
 abbrev pub live : Records → Bool
 live d = d .heard || d .idle
 
--- nothing is left
-abbrev pub lost : Controller → Records
-lost s = record { controller = s; heard = false; idle = false }
-
--- the sent K2 has the bridge and the line bits 000
+-- the sent K2 is the one of the bridge
 abbrev pub secondFits : ℕ → ℕ → Bool
-secondFits k2 bridged = eqb (bridgedOf k2) bridged && not (eqb (lineBits k2) 0b110)
+secondFits k2 bridged = eqb k2 (k2Of bridged)
 
 -- the pair is sent by a controller that has accepted the K1
 abbrev pub opens : ℕ → Request → ℕ → Bool → Bool
@@ -69,29 +67,35 @@ recordAfter s now k1 k2 sentK1 =
       left = leftAfter (asked sentK1) now;
     }
 
--- with a usable pair sent
-unfoldable pub traced : Records → Row → Records
-traced d r =
-    let s = d .controller in
-    let x = asked (r .sentK1) in
-    let now = waitOf s (asked (s .sent)) 0 in
-    let local = localIn s x in
-    if eqb (mark (s .n) (r .k1) (r .k2)) 0 then
+-- what a sent pair says, whatever was accepted
+abbrev pub seenIn : Controller → ℕ → ℕ → Seen
+seenIn s sentK1 sentK2 =
+    let x = asked sentK1 in
     record {
-      controller = recordAfter s now (r .k1) (r .k2) (r .sentK1);
-      heard = opens (r .k1) x (r .sentK2) local;
-      idle = hiddenIn s x (r .sentK2);
-    }
-    else
-    record {
-      controller = recordAfter s now (s .k1) (s .k2) (r .sentK1);
-      heard = d .heard && opens (s .k1) x (r .sentK2) local;
-      idle = d .idle && opens idleK1 x (r .sentK2) local || hiddenIn s x (r .sentK2);
+      request = x;
+      now = waitOf s (asked (s .sent)) 0;
+      local = localIn s x;
+      hidden = hiddenIn s x sentK2;
     }
 
+-- a byte of the pair that stands: the received one's, if that is usable
+abbrev pub standing : Bool → ℕ → ℕ → ℕ
+standing usable received before = if usable then received else before
+
+-- the sent K1 stands in the table; and with a usable pair received that pair is accepted, unless section 0 has failed
 unfoldable pub next : Records → Row → Records
 next d r =
-    if eqb (mark (d .controller .n) (r .sentK1) (r .sentK2)) 0 then traced d r else lost (d .controller)
+    let s = d .controller in
+    let seen = seenIn s (r .sentK1) (r .sentK2) in
+    let x = seen .request in
+    let carried = carries requests (s .n) (x .code) (x .channel) in
+    let usable = eqb (mark (s .n) (r .k1) (r .k2)) 0 in
+    let k1 = standing usable (r .k1) (s .k1) in
+    record {
+      controller = recordAfter s (seen .now) k1 (standing usable (r .k2) (s .k2)) (r .sentK1);
+      heard = carried && opens k1 x (r .sentK2) (seen .local) && (usable || d .heard);
+      idle = carried && not usable && opens idleK1 x (r .sentK2) (seen .local) && d .idle || carried && seen .hidden;
+    }
 
 -- the verdict of the scan
 abbrev pub verdictOf : Scanned → Judging

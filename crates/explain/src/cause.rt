@@ -4,22 +4,25 @@ use controller::codes::LOCKOUT;
 use controller::codes::NOTHING;
 use controller::codes::REVERSE;
 use controller::codes::WAIT_TO_RESTORE;
+use controller::command::held;
 use controller::section::condition;
-use pair::request::rank;
+use pair::request::packed_rank;
 use request::Request;
 use request::better;
 use request::replaces;
+ghost use Rattle.controller.specs.Rules.{held};
 ghost use Rattle.explain.specs.Cause.{commanded, conditioned, waited, arises, unseen, answers};
 ghost use mathlib.Core.Path.{_≡_};
 
 // One command a step: a clear that drops the held one leaves no room for a new one.
-pub(crate) fn commanded(hold: Request, after: Request) -> bool
-    ensures { λ r. ⌜ r ≡ commanded hold after ⌝ }
+pub(crate) fn commanded(hold: Request, x: Request) -> bool
+    ensures { λ r. ⌜ r ≡ commanded hold (held x) ⌝ }
 {
-    let goes_on = (after.code == hold.code) & (after.channel == hold.channel);
+    let after = held(x);
+    let goes_on = (x.code == hold.code) & (x.channel == hold.channel);
     let replaced = replaces(
-        rank(hold.code, hold.channel),
-        rank(after.code, after.channel),
+        packed_rank(hold.code, hold.channel),
+        packed_rank(x.code, x.channel),
     );
     (after.code != NOTHING) & (goes_on | replaced)
 }
@@ -56,8 +59,9 @@ pub(crate) fn unseen(command: bool, x: Request) -> bool
 pub(crate) fn answers(far: Request, x: Request, local: bool) -> bool
     ensures { λ r. ⌜ r ≡ answers far x local ⌝ }
 {
-    let rank_far = rank(far.code, far.channel);
-    let beaten = better(rank_far, far.channel, rank(x.code, x.channel), x.channel);
+    let rank_far = packed_rank(far.code, far.channel);
+    let rank_near = packed_rank(x.code, x.channel);
+    let beaten = better(rank_far, far.channel, rank_near, x.channel);
     let reversed = (x.code == REVERSE) & (0 < rank_far) & (far.channel == x.channel);
     reversed | (local & !beaten)
 }

@@ -1,5 +1,6 @@
 // The scan: what the bytes so far leave open of the controller's record (01, 'The judge').
 use crate::Records;
+use crate::Seen;
 use crate::Verdict;
 use crate::cause::answers;
 use crate::cause::arises;
@@ -11,24 +12,22 @@ use controller::codes::NOTHING;
 use controller::codes::WAIT_TO_RESTORE;
 use controller::command::held;
 use controller::wait::wait_of;
-use pair::Decoded;
-use pair::decode;
+use pair::mark::usable;
+use pair::request::carries;
 use request::Request;
 use request::bridge;
 ghost use Prim.Native.Nat.{_≤_, _%_};
 ghost use Rattle.explain.specs.Capture.{row};
-ghost use Rattle.explain.specs.Trace.{secondFits, opens, recordAfter, traced, next, scanned};
+ghost use Rattle.explain.specs.Trace.{secondFits, opens, recordAfter, seenIn, standing, next, scanned};
 ghost use Rattle.explain.specs.Verdict.{told, most};
-ghost use Rattle.pair.specs.Coder.{sectionsFit};
 ghost use lib.ListN.{length};
-ghost use mathlib.Core.Bool.{true};
 ghost use mathlib.Core.Path.{_≡_};
 
-// A sent K2 has line bits 000.
+// A sent K2 has bit 5 and the line bits 000.
 fn second_fits(k2: u8, bridged: u8) -> bool
     ensures { λ r. ⌜ r ≡ secondFits k2 bridged ⌝ }
 {
-    (k2 / 16 == bridged) & (k2 % 8 != 0b110)
+    k2 as u16 == (bridged as u16) * 16 + 0b1000
 }
 
 fn opens(k1: u8, x: Request, k2: u8, local: bool) -> bool
@@ -55,53 +54,52 @@ fn record_after(s: Controller, now: u16, k1: u8, k2: u8, sent: u8) -> Controller
     }
 }
 
-fn traced(d: Records, k1: u8, k2: u8, sent1: u8, sent2: u8) -> Records
-    requires { ⌜ sectionsFit (d .controller .n) ≡ true ⌝ }
-    ensures { λ r. ⌜ r ≡ traced d (row k1 k2 sent1 sent2) ⌝ }
+fn seen_in(s: Controller, sent1: u8, sent2: u8) -> Seen
+    ensures { λ r. ⌜ r ≡ seenIn s sent1 sent2 ⌝ }
 {
-    let s = d.controller;
     let last = asked(s.sent);
     let x = asked(sent1);
     let now = wait_of(s, last, 0);
-    let command = commanded(held(last), held(x));
+    let command = commanded(held(last), x);
     let local = arises(s.mask, command, now, last, x);
     let hidden = unseen(command, x) & second_fits(sent2, 0);
-    let Decoded::Usable(_) = decode(s.n, k1, k2) else {
-        let heard = d.heard & opens(s.k1, x, sent2, local);
-        let idle = (d.idle & opens(Controller::IDLE_K1, x, sent2, local)) | hidden;
-        let controller = record_after(s, now, s.k1, s.k2, sent1);
-        return Records {
-            controller,
-            heard,
-            idle,
-        };
-    };
-    let heard = opens(k1, x, sent2, local);
-    let controller = record_after(s, now, k1, k2, sent1);
-    Records {
-        controller,
-        heard,
-        idle: hidden,
+    Seen {
+        request: x,
+        now,
+        local,
+        hidden,
     }
 }
 
+fn standing(usable: bool, received: u8, before: u8) -> u8
+    ensures { λ r. ⌜ r ≡ standing usable received before ⌝ }
+{
+    if usable { received } else { before }
+}
+
+// The same few operations whatever the bytes are: a branch that is taken in one step and not in the next costs more than
+// what it would save. The flags of the step before come last, so that no step waits for another.
 pub(crate) fn next(d: Records, k1: u8, k2: u8, sent1: u8, sent2: u8) -> Records
-    requires { ⌜ sectionsFit (d .controller .n) ≡ true ⌝ }
     ensures { λ r. ⌜ r ≡ next d (row k1 k2 sent1 sent2) ⌝ }
 {
     let s = d.controller;
-    let Decoded::Usable(_) = decode(s.n, sent1, sent2) else {
-        return Records {
-            controller: s,
-            heard: false,
-            idle: false,
-        };
-    };
-    traced(d, k1, k2, sent1, sent2)
+    let seen = seen_in(s, sent1, sent2);
+    let x = seen.request;
+    let carried = carries(s.n, x.code, x.channel);
+    let usable = usable(s.n, k1, k2);
+    let far = standing(usable, k1, s.k1);
+    let opened = carried & opens(far, x, sent2, seen.local);
+    let opened_idle = carried & !usable & opens(Controller::IDLE_K1, x, sent2, seen.local);
+    let controller = record_after(s, seen.now, far, standing(usable, k2, s.k2), sent1);
+    Records {
+        controller,
+        heard: opened & (usable | d.heard),
+        idle: (opened_idle & d.idle) | (carried & seen.hidden),
+    }
 }
 
 pub(crate) fn scan(s: Controller, capture: &[u8]) -> Verdict
-    requires { ⌜ (sectionsFit (s .n) ≡ true) × (length (now capture) % 4 ≡ 0) × (length (now capture) ≤ most) ⌝ }
+    requires { ⌜ (length (now capture) % 4 ≡ 0) × (length (now capture) ≤ most) ⌝ }
     ensures { λ r. ⌜ told r ≡ scanned s (now (capture .entry)) ⌝ }
 {
     let mut possible = Records {

@@ -19,11 +19,7 @@ size-refusal-requires c κs = search needs
 scan-requires : tie.Need-scan-requires
 scan-requires c κs =
     let a = c .before .before .before .before .before .before .before .args in
-    let made = c .before .before .before .before .before .fresh .ensures .decided in
-    let s = c .before .before .before .s .given in
-    let facts = fresh-facts (a .n) (a .mask) (a .w) (s .0 .0) (sym made ∙ s .1) in
-    let size = size-fits (length (a .capture .now)) (sym (c .before .size-refusal .ensures) ∙ c .if1 .taken) in
-    (rw (facts .0) (facts .1), size .0, size .1)
+    size-fits (length (a .capture .now)) (sym (c .before .size-refusal .ensures) ∙ c .if1 .taken)
 
 enum-known-k : tie.Need-enum-known-k
 enum-known-k c = search needs

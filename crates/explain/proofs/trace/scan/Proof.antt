@@ -17,7 +17,7 @@ abbrev μ-loop : tie.MeasureT-loop
 loop-holds : tie.Need-loop-holds Inv-loop μ-loop
 loop-holds c =
     let a = c .before .args in
-    walk-start (a .capture .now) _ (c .before .pre .0) (c .before .pre .1) (c .before .pre .2)
+    walk-start (a .capture .now) _ (c .before .pre .0) (c .before .pre .1)
 
 shared-slice-read-next : tie.Need-shared-slice-read-next Inv-loop μ-loop
 shared-slice-read-next c =
@@ -55,7 +55,7 @@ shared-slice-read-next-4 c =
     search needs
 
 next-requires : tie.Need-next-requires Inv-loop μ-loop
-next-requires c κs = c .before .before .before .before .before .loop .inv .fits
+next-requires c κs = search needs
 
 returns : tie.Need-returns Inv-loop μ-loop
 returns c =
