@@ -1,15 +1,17 @@
 -- The bytes of a whole book: how many there are, and that the writer's parts put one behind the other are they.
 use mathlib.Core.Path.{_≡_, refl, ap, _∙_}
+use mathlib.Core.Bool.{Bool, true, false}
 use mathlib.Core.List.{List, [], _∷_, _++_}
-use Prim.Native.Nat.{ℕ, suc, _+_, _*_}
+use Prim.Native.Nat.{ℕ, suc, _+_, _*_, _≤_}
 use native.Mathlib.Nat.{zero-add}
 use native.Mathlib.Omega.{arith}
+use lib.Dec.{eqb}
 use lib.ListN.{length, set, drop, length-append, length-set}
 use lib.Seq.{sets, sets-eq, length-sets}
-use borrow.Author.Tests.{ne-eqb}
+use borrow.Author.Tests.{eqb-true, ne-eqb}
 use Rattle.basics.specs.Answer.{Answers}
 use Rattle.basics.proofs.Bytes.{sets-joined}
-use Rattle.book.specs.Format.{entryBytes, firstBody, bodyEnd, placed, contentsBytes, bookOf}
+use Rattle.book.specs.Format.{entryBytes, firstBody, bodyEnd, placed, contentsBytes, bookOf, most}
 use Rattle.book.specs.Writer.{counted, size, writeRefusal, writingTold, writingCase, writing, output}
 use Rattle.book.specs.declared.Entry.{Entry}
 use Rattle.book.specs.declared.Contents.{Contents}
@@ -113,3 +115,12 @@ module _ (contents : Contents) (bodies out : List ℕ) where
   unfolding writing output
   refused-writing some =
       let none = ne-eqb (writeRefusal contents (length bodies) (length out)) 0 some in (rw none, rw none)
+
+-- what was written is no more than a book has
+pub written-small : (contents : Contents) (bodies room : ℕ) → writing contents bodies room .bytes ≤ most
+unfolding writing
+written-small contents bodies room = go (eqb (writeRefusal contents bodies room) 0) refl
+  where
+    go : (t : Bool) → eqb (writeRefusal contents bodies room) 0 ≡ t → writing contents bodies room .bytes ≤ most
+    go true h = rw h (writable contents bodies room (eqb-true (writeRefusal contents bodies room) 0 h) .small)
+    go false h = rw h (omega arith)

@@ -1,19 +1,22 @@
--- The entries of a book as they stand in its contents, and the walk through them that checks each and keeps it.
+-- The entries of a book as they stand in its contents, the loop that reads them, and the walk that checks each.
 use mathlib.Core.Path.{_≡_, refl, sym, ap, _∙_}
+use mathlib.Core.Bool.{Bool, true, false}
 use mathlib.Core.List.{List, [], _∷_, _++_}
 use Prim.Native.Nat.{ℕ, zero, suc, _+_, _*_, _-_, _≤_, _<_}
 use native.Mathlib.Nat.{le-of-suc-le-suc, not-suc-le-zero, suc-sub-suc, sub-zero, zero-sub, zero-add}
 use native.Mathlib.Numerals.{add-one}
 use native.Mathlib.Omega.{arith}
+use lib.Dec.{eqb}
 use lib.ListN.{length, getD, set, drop, replicate, length-replicate, drop-of-length-le}
 use lib.Seq.{sets, sets-eq, drop-cons, drop-drop}
-use borrow.Author.Tests.{lt-ltb, le-ltb, ne-eqb}
+use borrow.Author.Tests.{lt-ltb, le-ltb, ne-eqb, eqb-true, eqb-false}
 use Rattle.basics.specs.First.{firstOf}
-use Rattle.basics.proofs.First.{first-behind, first-before}
+use Rattle.basics.proofs.First.{first-behind, first-before, none-both}
 use Rattle.book.specs.Format.{entryIn, firstBody, bodyEnd, noEntry, places, countIn, entriesIn, entriesOf}
 use Rattle.book.specs.Reader.{headFaults, entryFaults, bodyFaults, refusal}
 use Rattle.book.specs.Reader.{refused, reading}
 use Rattle.book.specs.declared.Entry.{Entry}
+use Rattle.book.specs.declared.Reading.{Reading}
 use Rattle.book.proofs.Refusals.{Headed, headed, sound}
 
 pub length-entries : (k : ℕ) (bytes : List ℕ) → length (entriesIn k bytes) ≡ k
@@ -34,14 +37,20 @@ entry-at (suc k) (suc i) bytes h =
 abbrev pub entryOf : List ℕ → ℕ → Entry
 entryOf book i = entryIn (drop (2 + 12 * i) book)
 
--- entries i and on, taken one further
+-- k entries behind the first bytes: those from i on, taken one further
+pub entries-next : (k at i : ℕ) (bytes : List ℕ) → i < k
+    → drop i (entriesIn k (drop at bytes))
+    ≡ entryIn (drop (at + 12 * i) bytes) ∷ drop (i + 1) (entriesIn k (drop at bytes))
+entries-next k at i bytes h =
+    let entries = entriesIn k (drop at bytes) in
+    let inside : i < length entries = omega (arith, length-entries k (drop at bytes)) in
+    rw (add-one, drop-cons entries i noEntry)
+    (ap (λ (e : Entry). e ∷ drop (suc i) entries)
+    (entry-at k i (drop at bytes) h ∙ ap entryIn (drop-drop (12 * i) at bytes)))
+
 rest-entries : (book : List ℕ) (i : ℕ) → i < countIn book
     → drop i (entriesOf book) ≡ entryOf book i ∷ drop (i + 1) (entriesOf book)
-rest-entries book i h =
-    let inside : i < length (entriesOf book) = omega (arith, length-entries (countIn book) (drop 2 book)) in
-    rw (add-one, drop-cons (entriesOf book) i noEntry)
-    (ap (λ (e : Entry). e ∷ drop (suc i) (entriesOf book))
-    (entry-at (countIn book) i (drop 2 book) h ∙ ap entryIn (drop-drop (12 * i) 2 book)))
+rest-entries book i h = entries-next (countIn book) 2 i book h
 
 -- entries that are set in 64 places of zeros, one after the other
 drop-zeros : (n m : ℕ) → drop n (replicate m noEntry) ≡ replicate (m - n) noEntry
@@ -55,28 +64,56 @@ set-places entries h =
     ∙ ap (λ (l : List Entry). entries ++ l)
     (drop-zeros (0 + length entries) 64 ∙ ap (λ (k : ℕ). replicate (64 - k) noEntry) (zero-add (length entries)))
 
--- How far the walk has come: entries before i are without fault and kept, the body of the next one belongs at `at`. What
--- is left of the checks decides the refusal, and what is left of the entries fills the places.
-pub record Walk (book : List ℕ) (entries : List Entry) (at i : ℕ) : Type 0 where
+-- Entries before i, of k that stand behind the first bytes, are read and kept.
+pub record Taking (k at : ℕ) (bytes : List ℕ) (entries : List Entry) (i : ℕ) : Type 0 where
+  pub few : k ≤ 64
+  pub within : i ≤ k
+  pub taken :
+      sets entries i (drop i (entriesIn k (drop at bytes)))
+      ≡ sets (replicate 64 noEntry) 0 (entriesIn k (drop at bytes))
+
+pub take-start : (k at : ℕ) (bytes : List ℕ) → k ≤ 64 → Taking k at bytes (replicate 64 noEntry) 0
+take-start k at bytes few = record { few = few; within = omega arith; taken = refl }
+
+module _ {k at : ℕ} {bytes : List ℕ} {entries : List Entry} {i : ℕ} (taking : Taking k at bytes entries i) where
+  pub take-next : i < k → Taking k at bytes (set entries i (entryIn (drop (at + 12 * i) bytes))) (i + 1)
+  take-next h =
+      let e = entryIn (drop (at + 12 * i) bytes) in
+      let rest = drop (i + 1) (entriesIn k (drop at bytes)) in
+      record {
+        few = taking .few;
+        within = omega arith;
+        taken =
+            ap (λ (n : ℕ). sets (set entries i e) n rest) (add-one i)
+            ∙ ap (sets entries i) (sym (entries-next k at i bytes h))
+            ∙ taking .taken;
+      }
+
+  pub take-done : k ≤ i → entries ≡ places (entriesIn k (drop at bytes))
+  take-done h =
+      let all = length-entries k (drop at bytes) in
+      let none : drop i (entriesIn k (drop at bytes)) ≡ [] =
+      drop-of-length-le (entriesIn k (drop at bytes)) {i = i} (omega arith) in
+      ap (sets entries i) (sym none)
+      ∙ taking .taken
+      ∙ set-places (entriesIn k (drop at bytes)) (omega (arith, taking .few))
+
+-- How far the walk has come: entries before i are without fault, the body of the next one belongs at `at`. What is left
+-- of the checks decides the refusal.
+pub record Walk (book : List ℕ) (at i : ℕ) : Type 0 where
   pub head : Headed book
   pub within : i ≤ countIn book
   pub before : at ≤ length book
   pub first : firstOf (bodyFaults (length book) at (drop i (entriesOf book))) ≡ refusal book
-  pub filled : sets entries i (drop i (entriesOf book)) ≡ sets (replicate 64 noEntry) 0 (entriesOf book)
-
-refused-right : (book : List ℕ) (number : ℕ) → number ≡ refusal book → (number ≡ 0 → ⊥) → refused number ≡ reading book
-unfolding reading
-refused-right book number e some = rw (← e, ne-eqb number 0 some)
 
 pub head-refused : (book : List ℕ) (number : ℕ) → number ≡ firstOf (headFaults book) → (number ≡ 0 → ⊥)
-    → refused number ≡ reading book
+    → number ≡ refusal book
 unfolding refusal
 head-refused book number e some =
     let rest = bodyFaults (length book) (firstBody (countIn book)) (entriesOf book) in
-    refused-right book number (e ∙ sym (first-before (headFaults book) rest (λ z. some (e ∙ z)))) some
+    e ∙ sym (first-before (headFaults book) rest (λ z. some (e ∙ z)))
 
-pub walk-start : (book : List ℕ) → firstOf (headFaults book) ≡ 0
-    → Walk book (replicate 64 noEntry) (firstBody (countIn book)) 0
+pub walk-start : (book : List ℕ) → firstOf (headFaults book) ≡ 0 → Walk book (firstBody (countIn book)) 0
 unfolding refusal
 walk-start book e =
     let h = headed book e in
@@ -86,10 +123,9 @@ walk-start book e =
       within = omega arith;
       before = h .uncut;
       first = sym (first-behind (headFaults book) rest refl e);
-      filled = refl;
     }
 
-module _ {book : List ℕ} {entries : List Entry} {at i : ℕ} (walk : Walk book entries at i) where
+module _ {book : List ℕ} {at i : ℕ} (walk : Walk book at i) where
   next-first : i < countIn book → let e = entryOf book i in
       firstOf (entryFaults (length book) at e ++ bodyFaults (length book) (bodyEnd at e) (drop (i + 1) (entriesOf book)))
       ≡ refusal book
@@ -98,7 +134,7 @@ module _ {book : List ℕ} {entries : List Entry} {at i : ℕ} (walk : Walk book
       ap (λ (es : List Entry). firstOf (bodyFaults (length book) at es)) (sym (rest-entries book i h)) ∙ walk .first
 
   pub walk-step : i < countIn book → firstOf (entryFaults (length book) at (entryOf book i)) ≡ 0
-      → Walk book (set entries i (entryOf book i)) (bodyEnd at (entryOf book i)) (i + 1)
+      → Walk book (bodyEnd at (entryOf book i)) (i + 1)
   walk-step h none =
       let e = entryOf book i in
       let rest = drop (i + 1) (entriesOf book) in
@@ -109,40 +145,74 @@ module _ {book : List ℕ} {entries : List Entry} {at i : ℕ} (walk : Walk book
         before = sound (length book) at e none .inside;
         first =
             sym (first-behind checks (bodyFaults (length book) (bodyEnd at e) rest) refl none) ∙ next-first h;
-        filled =
-            ap (λ (n : ℕ). sets (set entries i e) n rest) (add-one i)
-            ∙ ap (λ (es : List Entry). sets entries i es) (sym (rest-entries book i h))
-            ∙ walk .filled;
       }
 
   pub walk-refused : i < countIn book → (number : ℕ) → number ≡ firstOf (entryFaults (length book) at (entryOf book i))
-      → (number ≡ 0 → ⊥) → refused number ≡ reading book
+      → (number ≡ 0 → ⊥) → number ≡ refusal book
   walk-refused h number e some =
       let checks = entryFaults (length book) at (entryOf book i) in
       let rest = bodyFaults (length book) (bodyEnd at (entryOf book i)) (drop (i + 1) (entriesOf book)) in
-      refused-right book number (e ∙ sym (first-before checks rest (λ z. some (e ∙ z))) ∙ next-first h) some
+      e ∙ sym (first-before checks rest (λ z. some (e ∙ z))) ∙ next-first h
 
   module _ (done : countIn book ≤ i) where
-    none-left : drop i (entriesOf book) ≡ []
-    none-left =
-        let all : length (entriesOf book) ≤ i = omega (arith, length-entries (countIn book) (drop 2 book)) in
-        drop-of-length-le (entriesOf book) all
-
     last-first : firstOf (bodyFaults (length book) at []) ≡ refusal book
-    last-first = ap (λ (es : List Entry). firstOf (bodyFaults (length book) at es)) (sym none-left) ∙ walk .first
+    last-first =
+        let all : length (entriesOf book) ≤ i = omega (arith, length-entries (countIn book) (drop 2 book)) in
+        let none : drop i (entriesOf book) ≡ [] = drop-of-length-le (entriesOf book) all in
+        ap (λ (es : List Entry). firstOf (bodyFaults (length book) at es)) (sym none) ∙ walk .first
 
-    pub walk-left-over : at < length book → refused 28 ≡ reading book
+    pub walk-left-over : at < length book → 28 ≡ refusal book
     unfolding bodyFaults
-    walk-left-over h =
-        refused-right book 28 (rw (lt-ltb at (length book) h) at last-first) (λ z. omega arith)
+    walk-left-over h = rw (lt-ltb at (length book) h) at last-first
 
-    pub walk-done : length book ≤ at
-        → record { refusal = 0; contents = record { count = countIn book; entries = entries } } ≡ reading book
-    unfolding bodyFaults reading
-    walk-done h =
-        let whole : entries ≡ places (entriesOf book) =
-        ap (λ (es : List Entry). sets entries i es) (sym none-left)
-        ∙ walk .filled
-        ∙ set-places (entriesOf book) (omega (arith, walk .head .few, length-entries (countIn book) (drop 2 book))) in
-        let zero-refusal : refusal book ≡ 0 = sym last-first ∙ rw (le-ltb at (length book) h) in
-        rw (zero-refusal, whole)
+    pub walk-done : length book ≤ at → 0 ≡ refusal book
+    unfolding bodyFaults
+    walk-done h = rw (le-ltb at (length book) h) at last-first
+
+-- the count of a book that is read, and of one that is refused
+pub accepted : (book : List ℕ) → refusal book ≡ 0
+    → reading book
+    ≡ record { refusal = 0; contents = record { count = countIn book; entries = places (entriesOf book) } }
+unfolding reading
+accepted book z = rw z
+
+pub not-accepted : (book : List ℕ) → (refusal book ≡ 0 → ⊥) → reading book ≡ refused (refusal book)
+unfolding reading
+not-accepted book some = rw (ne-eqb (refusal book) 0 some)
+
+pub head-accepted : (book : List ℕ) → refusal book ≡ 0 → Headed book
+unfolding refusal
+head-accepted book z =
+    let rest = bodyFaults (length book) (firstBody (countIn book)) (entriesOf book) in
+    headed book (none-both (headFaults book) rest refl z .0)
+
+-- what is known of a count k that is read: its entries are there, and they are what is read
+pub record Counting (book : List ℕ) (k : ℕ) : Type 0 where
+  pub few : k ≤ 64
+  pub uncut : 12 * k ≤ length book - 2
+  pub whole :
+      record { refusal = refusal book; contents = record { count = k; entries = places (entriesIn k (drop 2 book)) } }
+      ≡ reading book
+
+pub counting : (book : List ℕ) (k : ℕ) → k ≡ reading book .contents .count → Counting book k
+unfolding entriesIn
+counting book k e = go (eqb (refusal book) 0) refl
+  where
+    go : (t : Bool) → eqb (refusal book) 0 ≡ t → Counting book k
+    go true h =
+        let z = eqb-true (refusal book) 0 h in
+        let head = head-accepted book z in
+        let same : k ≡ countIn book = e ∙ ap (λ (r : Reading). r .contents .count) (accepted book z) in
+        record {
+          few = omega (arith, same, head .few);
+          uncut = omega (arith, same, head .uncut);
+          whole = rw (accepted book z, same, z);
+        }
+    go false h =
+        let some = eqb-false (refusal book) 0 h in
+        let same : k ≡ 0 = e ∙ ap (λ (r : Reading). r .contents .count) (not-accepted book some) in
+        record {
+          few = omega (arith, same);
+          uncut = omega (arith, same);
+          whole = rw (not-accepted book some, same);
+        }

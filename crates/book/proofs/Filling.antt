@@ -22,7 +22,7 @@ length-entry e = refl
 abbrev pub back : List ℕ → ℕ → List ℕ → List ℕ
 back out at part = take at out ++ (part ++ drop (length out - at) (drop at out))
 
-lent : (out part values : List ℕ) (at : ℕ) → at + length values ≤ length out
+pub lent : (out part values : List ℕ) (at : ℕ) → at + length values ≤ length out
     → part ≡ sets (take (length out - at) (drop at out)) 0 values → back out at part ≡ sets out at values
 lent out part values at h e =
     let rest = drop at out in

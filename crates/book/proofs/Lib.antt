@@ -1,9 +1,10 @@
--- Theorems is the front door; the rest are the laws behind it.
+-- Theorems is the front door; the rest are the laws behind it, some of them for the door for C and Rust too.
 mod Refusals
 mod Entries
 mod Counted
 mod Filling
-mod Books
+pub mod Books
+pub mod Lists
 mod Ordered
-mod Trips
+pub mod Trips
 mod Theorems

@@ -13,14 +13,24 @@ use Rattle.basics.specs.First.{FirstAt, numberOf}
 use Rattle.basics.proofs.First.{first-applies}
 use Rattle.basics.proofs.One.{OneAnswer, OneContent, OnePart, one-value, one-case}
 use Rattle.basics.proofs.Table.{every}
-use Rattle.book.specs.Format.{countIn, layout, entriesOf, firstBody, IsBook, bodyOf, joined, places, placed, bookOf}
+use Rattle.book.specs.Format.{countIn, layout, entriesOf, contentsIn, bytesOf, firstBody, IsBook, bodyOf, joined}
+use Rattle.book.specs.Format.{places, placed, bookOf}
 use Rattle.book.specs.Reader.{faults, refusal, reading}
 use Rattle.book.specs.Writer.{counted, stepsOf, size, writeFaults, writeRefusal, writing, output}
 use Rattle.book.specs.declared.Contents.{Contents}
 use Rattle.book.proofs.Books.{refused-writing}
+use Rattle.book.proofs.Lists.{length-listed}
 use Rattle.book.proofs.Ordered.{order-ends, joined-rest, whole-bodies, book-exact, refused-or-book}
 use Rattle.book.proofs.Ordered.{refused-no-book}
-use Rattle.book.proofs.Trips.{read-again, written-again, book-format}
+use Rattle.book.proofs.Trips.{contents-back, contents-again, read-again, written-again, book-format}
+use Rattle.book.proofs.contents_in.Kinds as contents-in-kinds
+use Rattle.book.proofs.contents_in.Reads as contents-in-fn
+use Rattle.book.proofs.contents_in.Statement as contents-in-statement
+use Rattle.book.proofs.contents_in.Met as contents-in-met
+use Rattle.book.proofs.put_contents.Kinds as put-contents-kinds
+use Rattle.book.proofs.put_contents.Reads as put-contents-fn
+use Rattle.book.proofs.put_contents.Statement as put-contents-statement
+use Rattle.book.proofs.put_contents.Met as put-contents-met
 use Rattle.book.proofs.read.Kinds as read-kinds
 use Rattle.book.proofs.read.Reads as read-fn
 use Rattle.book.proofs.read.Statement as read-statement
@@ -34,7 +44,7 @@ use Rattle.book.proofs.write.Reads as write-fn
 use Rattle.book.proofs.write.Statement as write-statement
 use Rattle.book.proofs.write.Met as write-met
 
--- Reading, the body of a capture, and writing answer what their definitions say, for every input. (`statement` is the
+-- Reading, the body of a capture, writing, and contents in bytes by themselves answer what their definitions say, for every input. (`statement` is the
 -- contract, as the checker reads it off the source; it asks nothing of the caller.)
 read-right : {M : Type 1} → read-statement.statement M
 read-right = read-met.met
@@ -44,6 +54,12 @@ body-right = body-met.met
 
 write-right : {M : Type 1} → write-statement.statement M
 write-right = write-met.met
+
+contents-in-right : {M : Type 1} → contents-in-statement.statement M
+contents-in-right = contents-in-met.met
+
+put-contents-right : {M : Type 1} → put-contents-statement.statement M
+put-contents-right = put-contents-met.met
 
 -- Two answers that the promise of a public function allows are equal, and so are two contents of the output. (`Post` is
 -- the function's `ensures`. A body is a part of the book's own slice; what is decided of it is its bytes.)
@@ -58,6 +74,13 @@ write-unique κs args x y s t p q = one-case (p .0) (q .0)
 
 output-unique : OneContent 2 write-kinds.ps write-kinds.r write-fn.Post (λ κs exit. now (exit .1 .1 .0))
 output-unique κs args x y s t p q = one-value (p .1) (q .1)
+
+contents-in-unique : OneAnswer 1 contents-in-kinds.ps contents-in-kinds.r contents-in-fn.Post
+contents-in-unique κs args x y s t p q = one-value p q
+
+put-contents-unique :
+    OneContent 1 put-contents-kinds.ps put-contents-kinds.r put-contents-fn.Post (λ κs exit. now (exit .0))
+put-contents-unique κs args x y s t p q = one-value p q
 
 -- Exactly one of two: some check applies, and the first of them in the paper's order gives the refusal; or the bytes are
 -- a book: each body starts where the one before it ends, the first at 2 + 12k, and the last ends with the book.
@@ -134,3 +157,15 @@ write-read : (contents : Contents) (bodies out : List ℕ) → writeRefusal cont
     × (joined book entries ≡ bodies)
     × (every (λ e. eqb (length (bodyOf book e)) (4 * e .steps)) entries ≡ true)
 write-read = written-again
+
+-- Contents in bytes by themselves are 769. What was written there is read back, and what was read there is written again
+-- byte for byte.
+contents-size : (contents : Contents) → length (contents .entries) ≡ 64 → length (bytesOf contents) ≡ 769
+contents-size = length-listed
+
+contents-read : (contents : Contents) → length (contents .entries) ≡ 64 → contentsIn (bytesOf contents) ≡ contents
+contents-read = contents-back
+
+contents-written : (bytes : List ℕ) → length bytes ≡ 769 → ((i : ℕ) → getD bytes i 0 < 256)
+    → bytesOf (contentsIn bytes) ≡ bytes
+contents-written = contents-again

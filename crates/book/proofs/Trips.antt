@@ -1,24 +1,24 @@
 -- Round trips: what is read and written again, and what is written and read again.
 use mathlib.Core.Path.{_≡_, refl, sym, ap, subst, _∙_}
 use mathlib.Core.Bool.{Bool, true, false}
-use mathlib.Core.List.{List, [], _∷_, _++_, append-assoc}
+use mathlib.Core.List.{List, [], _∷_, _++_, append-assoc, append-nil}
 use mathlib.Core.Logic.{_↔_}
 use Prim.Native.Nat.{ℕ, zero, suc, _+_, _*_, _-_, _≤_, _<_}
 use native.Mathlib.Omega.{arith}
 use lib.Dec.{eqb}
-use lib.ListN.{length, getD, take, drop, replicate, length-drop, take-append-drop}
-use lib.Seq.{drop-at, drop-cons, drop-drop, take-at, take-add, getD-drop}
+use lib.ListN.{length, getD, take, drop, replicate, length-append, length-drop, length-replicate, take-append-drop}
+use lib.Seq.{drop-at, drop-cons, drop-drop, take-at, take-add, take-all, getD-drop}
 use borrow.Author.Tests.{eqb-true}
 use Rattle.basics.proofs.Fields.{fields-back, fields-again}
 use Rattle.basics.proofs.Table.{every}
 use Rattle.book.specs.Format.{countIn, layout, fields, named, entryIn, entryBytes, entriesIn, entriesOf}
-use Rattle.book.specs.Format.{contentsBytes, firstBody, InOrder, most, IsBook, bodyOf, joined, noEntry, places, placed, bookOf}
+use Rattle.book.specs.Format.{contentsBytes, contentsIn, bytesOf, firstBody, InOrder, most, IsBook, bodyOf, joined, noEntry, places, placed, bookOf}
 use Rattle.book.specs.Reader.{refusal, reading}
 use Rattle.book.specs.Writer.{firstPlaces, counted, stepsOf, size, writeRefusal, writing, output}
 use Rattle.book.specs.declared.Entry.{Entry}
 use Rattle.book.specs.declared.Contents.{Contents}
 use Rattle.book.proofs.Refusals.{writable, not-refused}
-use Rattle.book.proofs.Entries.{length-entries}
+use Rattle.book.proofs.Entries.{length-entries, accepted}
 use Rattle.book.proofs.Counted.{length-counted}
 use Rattle.book.proofs.Filling.{length-entry}
 use Rattle.book.proofs.Books.{length-placed, length-contents, length-book}
@@ -62,6 +62,26 @@ entries-again (suc k) bytes small h =
     )
     (sym (take-add 12 (12 * k) bytes))
 
+-- contents in bytes by themselves, written and read back, and read and written again
+pub contents-back : (contents : Contents) → length (contents .entries) ≡ 64 → contentsIn (bytesOf contents) ≡ contents
+unfolding contentsIn bytesOf
+contents-back contents all =
+    let whole : entriesIn 64 (contentsBytes (contents .entries)) ≡ contents .entries =
+    ap (λ (k : ℕ). entriesIn k (contentsBytes (contents .entries))) (sym all)
+    ∙ ap (entriesIn (length (contents .entries))) (sym (append-nil (contentsBytes (contents .entries))))
+    ∙ entries-back (contents .entries) [] in
+    ap (λ (entries : List Entry). record { count = contents .count; entries = entries }) whole
+
+pub contents-again : (bytes : List ℕ) → length bytes ≡ 769 → ((i : ℕ) → getD bytes i 0 < 256)
+    → bytesOf (contentsIn bytes) ≡ bytes
+unfolding contentsIn bytesOf
+contents-again bytes long small =
+    let small′ : (i : ℕ) → getD (drop 1 bytes) i 0 < 256 = λ i. rw (getD-drop 1 bytes i 0) (small (1 + i)) in
+    let rest = length-drop 1 bytes in
+    ap (λ (l : List ℕ). getD bytes 0 0 ∷ l)
+    (entries-again 64 (drop 1 bytes) small′ (omega arith) ∙ take-all (12 * 64) (drop 1 bytes) (omega arith))
+    ∙ sym (drop-cons bytes 0 0 (omega arith))
+
 -- the entries in the first places are those that count
 first-of : (entries after : List Entry) → firstPlaces (length entries) (entries ++ after) ≡ entries
 unfolding firstPlaces
@@ -75,10 +95,6 @@ places-first entries = first-of entries (replicate (64 - length entries) noEntry
 abbrev pub readContents : List ℕ → Contents
 readContents book = record { count = countIn book; entries = places (entriesOf book) }
 
-pub read-book : (book : List ℕ) → refusal book ≡ 0 → reading book ≡ record { refusal = 0; contents = readContents book }
-unfolding reading
-read-book book e = rw e
-
 read-refusal : (book : List ℕ) → reading book .refusal ≡ refusal book
 unfolding reading
 read-refusal book = go (eqb (refusal book) 0) refl
@@ -86,6 +102,11 @@ read-refusal book = go (eqb (refusal book) 0) refl
     go : (t : Bool) → eqb (refusal book) 0 ≡ t → reading book .refusal ≡ refusal book
     go true h = rw h (sym (eqb-true (refusal book) 0 h))
     go false h = rw h
+
+length-places : (entries : List Entry) → length entries ≤ 64 → length (places entries) ≡ 64
+length-places entries h =
+    let zeros = length-replicate (64 - length entries) noEntry in
+    length-append entries (replicate (64 - length entries) noEntry) ∙ omega arith
 
 module _ (book : List ℕ) (e : refusal book ≡ 0) where
   is-book : IsBook book
@@ -163,6 +184,17 @@ module _ (book : List ℕ) (e : refusal book ≡ 0) where
       unfolding output
       again-output = rw (again-none, whole-size, read-counted, book-again)
 
+-- read or refused, there are 64 places
+pub read-places : (book : List ℕ) → length (reading book .contents .entries) ≡ 64
+unfolding reading
+read-places book = go (eqb (refusal book) 0) refl
+  where
+    go : (t : Bool) → eqb (refusal book) 0 ≡ t → length (reading book .contents .entries) ≡ 64
+    go true h =
+        let e = eqb-true (refusal book) 0 h in
+        rw h (length-places (entriesOf book) (omega (arith, count-entries book e, is-book book e .few)))
+    go false h = rw h (length-places [] (omega arith))
+
 pub read-again : (book out : List ℕ) → ((i : ℕ) → getD book i 0 < 256) → reading book .refusal ≡ 0
     → length book ≤ length out →
     let contents = reading book .contents in
@@ -171,7 +203,7 @@ pub read-again : (book out : List ℕ) → ((i : ℕ) → getD book i 0 < 256) �
     × (output contents bodies out ≡ book ++ drop (length book) out)
 read-again book out small none room =
     let e = sym (read-refusal book) ∙ none in
-    rw (read-book book e, read-counted book e)
+    rw (accepted book e, read-counted book e)
     (again-writing book e small out room, again-output book e small out room)
 
 -- the book of some entries and bodies has these entries, placed, and these bodies
@@ -246,7 +278,7 @@ module _ (contents : Contents) (bodies out : List ℕ) (e : writeRefusal content
   written-reading =
       let book = bookOf (counted contents) bodies in
       let count : countIn book ≡ contents .count = count-counted in
-      read-book book (book-exact book .1 written-is) ∙ rw (written-entries, count)
+      accepted book (book-exact book .1 written-is) ∙ rw (written-entries, count)
 
   pub written-joined :
       joined (bookOf (counted contents) bodies) (placed (firstBody (contents .count)) (counted contents)) ≡ bodies

@@ -5,6 +5,7 @@ use Prim.Native.Nat.{ℕ, zero, suc, _+_, _*_, _-_, _≤_}
 use lib.ListN.{length, getD, take, drop, replicate}
 use Rattle.basics.specs.Fields.{Width, one, two, four, fieldsAt, fieldBytes}
 use Rattle.book.specs.declared.Entry.{Entry}
+use Rattle.book.specs.declared.Contents.{Contents}
 
 -- byte 0 of a book is 1, and byte 1 the count
 abbrev pub countIn : List ℕ → ℕ
@@ -46,6 +47,13 @@ entriesOf book = entriesIn (countIn book) (drop 2 book)
 unfoldable pub contentsBytes : List Entry → List ℕ
 contentsBytes [] = []
 contentsBytes (e ∷ rest) = entryBytes e ++ contentsBytes rest
+
+-- a count and 64 places in bytes by themselves: 1 for the count, then 12 for each place
+unfoldable pub contentsIn : List ℕ → Contents
+contentsIn bytes = record { count = getD bytes 0 0; entries = entriesIn 64 (drop 1 bytes) }
+
+unfoldable pub bytesOf : Contents → List ℕ
+bytesOf contents = contents .count ∷ contentsBytes (contents .entries)
 
 -- the first body, behind the contents
 abbrev pub firstBody : ℕ → ℕ

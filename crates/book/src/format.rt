@@ -1,10 +1,6 @@
 // Where a book has what (01, 'Capture book').
 use crate::Contents;
 use crate::Entry;
-use basics::four_at;
-use basics::put_four;
-use basics::put_two;
-use basics::two_at;
 ghost use Prim.Native.Nat.{_+_, _*_, _≤_};
 ghost use Rattle.book.specs.Format.{entryIn, entryBytes, firstBody, placedAt};
 ghost use Rattle.book.specs.Writer.{counted, stepsOf};
@@ -40,6 +36,19 @@ pub(crate) fn steps_in(contents: Contents) -> usize
     total
 }
 
+fn two(high: u8, low: u8) -> u16
+    ensures { λ r. ⌜ r ≡ high * 256 + low ⌝ }
+{
+    (high as u16) * 256 + low as u16
+}
+
+fn four(high: u16, low: u16) -> u32
+    ensures { λ r. ⌜ r ≡ high * 65536 + low ⌝ }
+{
+    (high as u32) * 65536 + low as u32
+}
+
+// With the 12 bytes required, no byte's place is tested when the program runs; so too in `put_entry`.
 pub(crate) fn entry_in(part: &[u8]) -> Entry
     requires { ⌜ 12 ≤ length (now part) ⌝ }
     ensures { λ r. ⌜ r ≡ entryIn (now (part .entry)) ⌝ }
@@ -47,10 +56,10 @@ pub(crate) fn entry_in(part: &[u8]) -> Entry
     Entry {
         n: part[0],
         spare: part[1],
-        mask: two_at(part, 2),
-        w: two_at(part, 4),
-        offset: four_at(part, 6),
-        steps: two_at(part, 10),
+        mask: two(part[2], part[3]),
+        w: two(part[4], part[5]),
+        offset: four(two(part[6], part[7]), two(part[8], part[9])),
+        steps: two(part[10], part[11]),
     }
 }
 
@@ -71,10 +80,18 @@ pub(crate) fn put_entry(part: &mut [u8], e: Entry)
     requires { ⌜ 12 ≤ length (now part) ⌝ }
     ensures { λ _. ⌜ now (part .exit) ≡ sets (now (part .entry)) 0 (entryBytes e) ⌝ }
 {
+    let high = e.offset / 65536;
+    let low = e.offset % 65536;
     part[0] = e.n;
     part[1] = e.spare;
-    put_two(part, 2, e.mask);
-    put_two(part, 4, e.w);
-    put_four(part, 6, e.offset);
-    put_two(part, 10, e.steps);
+    part[2] = (e.mask / 256) as u8;
+    part[3] = (e.mask % 256) as u8;
+    part[4] = (e.w / 256) as u8;
+    part[5] = (e.w % 256) as u8;
+    part[6] = (high / 256) as u8;
+    part[7] = (high % 256) as u8;
+    part[8] = (low / 256) as u8;
+    part[9] = (low % 256) as u8;
+    part[10] = (e.steps / 256) as u8;
+    part[11] = (e.steps % 256) as u8;
 }

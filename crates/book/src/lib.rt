@@ -1,17 +1,21 @@
 // Reader and writer of capture books (01, 'Capture book' and refusals 20 to 30).
 mod format;
+mod listing;
 mod reader;
 mod writer;
 
 use crate::format::body_size;
+use crate::format::entry_in;
 use crate::format::first_body;
-use crate::reader::entries_read;
-use crate::reader::head_refusal;
-use crate::reader::refused;
+use crate::listing::list_in;
+use crate::listing::put_list;
+use crate::reader::NO_ENTRY;
+use crate::reader::count_of;
+use crate::reader::refusal_of;
 use crate::writer::put_book;
 use crate::writer::write_refusal;
 ghost use Rattle.basics.specs.Answer.{Answers};
-ghost use Rattle.book.specs.Format.{bodyOf};
+ghost use Rattle.book.specs.Format.{bodyOf, contentsIn, bytesOf};
 ghost use Rattle.book.specs.Reader.{reading};
 ghost use Rattle.book.specs.Writer.{writingTold, writingCase, writing, output};
 ghost use lib.ListN.{length};
@@ -44,14 +48,22 @@ pub enum Writing {
     Refused(u8),
 }
 
+// No entry is kept of a refused book. The places are made here alone, so that no others are copied over them.
 pub fn read(book: &[u8]) -> Reading
     ensures { λ r. ⌜ r ≡ reading (now (book .entry)) ⌝ }
 {
-    let head = head_refusal(book);
-    if head == 0 {
-        entries_read(book)
-    } else {
-        refused(head)
+    let refusal = refusal_of(book);
+    let count = count_of(book, refusal);
+    let mut entries = [NO_ENTRY; 64];
+    let mut i = 0;
+    while i < count as usize {
+        let place = 2 + 12 * i;
+        entries[i] = entry_in(&book[place..]);
+        i += 1;
+    }
+    Reading {
+        refusal,
+        contents: Contents { count, entries },
     }
 }
 
@@ -83,4 +95,17 @@ pub fn write(contents: Contents, bodies: &[u8], out: &mut [u8]) -> Writing
     } else {
         Writing::Refused(refusal)
     }
+}
+
+// The contents as 769 bytes by themselves hold them: the count, then 64 places.
+pub fn contents_in(bytes: &[u8; 769]) -> Contents
+    ensures { λ r. ⌜ r ≡ contentsIn (now (bytes .entry)) ⌝ }
+{
+    list_in(bytes)
+}
+
+pub fn put_contents(out: &mut [u8; 769], contents: Contents)
+    ensures { λ _. ⌜ now (out .exit) ≡ bytesOf contents ⌝ }
+{
+    put_list(out, contents);
 }

@@ -1,17 +1,15 @@
-// Refusals 20 to 28, and the entries of a book that has none (01, 'Numbered refusals').
-use crate::Contents;
+// Refusals 20 to 28, and the count of a book that has none (01, 'Numbered refusals').
 use crate::Entry;
-use crate::Reading;
 use crate::format::body_size;
 use crate::format::entry_in;
 use crate::format::first_body;
 ghost use Prim.Native.Nat.{_≤_};
 ghost use Rattle.basics.specs.First.{firstOf};
 ghost use Rattle.book.specs.Format.{most};
-ghost use Rattle.book.specs.Reader.{headFaults, entryFaults, refused, reading};
+ghost use Rattle.book.specs.Reader.{headFaults, entryFaults, refusal, reading};
 ghost use mathlib.Core.Path.{_≡_};
 
-const NO_ENTRY: Entry = Entry {
+pub(crate) const NO_ENTRY: Entry = Entry {
     n: 0,
     spare: 0,
     mask: 0,
@@ -22,19 +20,7 @@ const NO_ENTRY: Entry = Entry {
 
 pub(crate) const MOST: usize = 65536;
 
-pub(crate) fn refused(number: u8) -> Reading
-    ensures { λ r. ⌜ r ≡ refused number ⌝ }
-{
-    Reading {
-        refusal: number,
-        contents: Contents {
-            count: 0,
-            entries: [NO_ENTRY; 64],
-        },
-    }
-}
-
-pub(crate) fn head_refusal(book: &[u8]) -> u8
+fn head_refusal(book: &[u8]) -> u8
     ensures { λ r. ⌜ r ≡ firstOf (headFaults (now (book .entry))) ⌝ }
 {
     let size = book.len();
@@ -75,31 +61,41 @@ fn entry_refusal(size: usize, at: usize, e: Entry) -> u8
     0
 }
 
-pub(crate) fn entries_read(book: &[u8]) -> Reading
+// Where the head has no refusal, that of the entries and of what is behind the last body.
+fn rest_refusal(book: &[u8]) -> u8
     requires { ⌜ firstOf (headFaults (now book)) ≡ 0 ⌝ }
-    ensures { λ r. ⌜ r ≡ reading (now (book .entry)) ⌝ }
+    ensures { λ r. ⌜ r ≡ refusal (now (book .entry)) ⌝ }
 {
     let size = book.len();
     let count = book[1];
-    let mut entries = [NO_ENTRY; 64];
     let mut at = first_body(count);
     let mut i = 0;
     while i < count as usize {
         let place = 2 + 12 * i;
         let e = entry_in(&book[place..]);
-        let refusal = entry_refusal(size, at, e);
-        if refusal != 0 {
-            return refused(refusal);
+        let number = entry_refusal(size, at, e);
+        if number != 0 {
+            return number;
         }
-        entries[i] = e;
         at += body_size(e);
         i += 1;
     }
     if at < size {
-        return refused(28);
+        return 28;
     }
-    Reading {
-        refusal: 0,
-        contents: Contents { count, entries },
-    }
+    0
+}
+
+pub(crate) fn refusal_of(book: &[u8]) -> u8
+    ensures { λ r. ⌜ r ≡ refusal (now (book .entry)) ⌝ }
+{
+    let head = head_refusal(book);
+    if head == 0 { rest_refusal(book) } else { head }
+}
+
+pub(crate) fn count_of(book: &[u8], number: u8) -> u8
+    requires { ⌜ number ≡ refusal (now book) ⌝ }
+    ensures { λ r. ⌜ r ≡ reading (now (book .entry)) .contents .count ⌝ }
+{
+    if number == 0 { book[1] } else { 0 }
 }

@@ -38,7 +38,7 @@ pub(crate) fn write_refusal(contents: Contents, bodies: &[u8], room: usize) -> u
 }
 
 // Entry by entry, each with the offset at which its body belongs.
-fn put_contents(contents: Contents, out: &mut [u8])
+fn put_entries(contents: Contents, out: &mut [u8])
     requires { ⌜ writeRefusal contents (4 * stepsOf (counted contents)) (length (now out)) ≡ 0 ⌝ }
     ensures { λ _. ⌜ now (out .exit) ≡ sets (now (out .entry)) 2 (contentsBytes (placed (firstBody (contents .count)) (counted contents))) ⌝ }
 {
@@ -83,6 +83,6 @@ pub(crate) fn put_book(contents: Contents, bodies: &[u8], out: &mut [u8])
 {
     out[0] = 1;
     out[1] = contents.count;
-    put_contents(contents, out);
+    put_entries(contents, out);
     put_bodies(contents, bodies, out);
 }

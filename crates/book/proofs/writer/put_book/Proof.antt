@@ -16,8 +16,8 @@ slice-write-out-2 c =
     let w = writable (c .before .before .args .contents) _ _ (c .before .before .pre) in
     simp length-set (omega arith)
 
-put-contents-requires : tie.Need-put-contents-requires
-put-contents-requires c κs =
+put-entries-requires : tie.Need-put-entries-requires
+put-entries-requires c κs =
     let a = c .before .before .before .args in
     let w = writable (a .contents) _ _ (c .before .before .before .pre) in
     rw (length-set, length-set, ← w .whole) (c .before .before .before .pre)
@@ -25,20 +25,20 @@ put-contents-requires c κs =
 put-bodies-requires : tie.Need-put-bodies-requires
 put-bodies-requires c κs =
     let a = c .before .before .before .before .before .before .before .args in
-    rw (c .before .before .before .put-contents .ensures, length-filled (a .contents) (a .out .now))
+    rw (c .before .before .before .put-entries .ensures, length-filled (a .contents) (a .out .now))
     (c .before .before .before .before .before .before .before .pre)
 
 same-length : tie.Need-same-length
 same-length c =
     let a = c .before .before .before .before .before .before .before .before .before .before .args in
     length-after (a .contents) (a .bodies .now) (a .out .now) _ _
-    (c .before .before .before .before .before .before .put-contents .ensures) (c .before .before .put-bodies .ensures)
+    (c .before .before .before .before .before .before .put-entries .ensures) (c .before .before .put-bodies .ensures)
 
 returns : tie.Need-returns
 returns c =
     let a = c .before .before .before .before .before .before .before .before .before .before .args in
     book-written (a .contents) (a .bodies .now) (a .out .now) _ _
-    (c .before .before .before .before .before .before .put-contents .ensures) (c .before .before .put-bodies .ensures)
+    (c .before .before .before .before .before .before .put-entries .ensures) (c .before .before .put-bodies .ensures)
     (c .before .before .before .before .before .before .before .before .before .before .pre)
 
 pub put-book-spec : {M : Type 1} → statement M
@@ -47,7 +47,7 @@ put-book-spec =
     (tie.spec
     slice-write-out
     slice-write-out-2
-    put-contents-requires
+    put-entries-requires
     put-bodies-requires
     same-length
     returns)

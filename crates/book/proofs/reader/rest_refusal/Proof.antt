@@ -1,4 +1,4 @@
--- `entries_read` meets its contract: a turn of its loop is a step of the walk.
+-- `rest_refusal` meets its contract: a turn of its loop is a step of the walk.
 use mathlib.Core.Path.{sym, ap, _∙_}
 use Prim.Native.Nat.{_+_, _*_, _-_}
 use native.Mathlib.Omega.{arith}
@@ -11,14 +11,14 @@ use Rattle.book.specs.Reader.{entryFaults}
 use Rattle.book.specs.declared.Entry.{Entry}
 use Rattle.book.proofs.Refusals.{headed}
 use Rattle.book.proofs.Entries.{Walk, walk-start, walk-step, walk-refused, walk-left-over, walk-done}
-use Rattle.book.proofs.reader.entries_read.Statement.{statement}
-use Rattle.book.proofs.reader.entries_read.Tie as tie
+use Rattle.book.proofs.reader.rest_refusal.Statement.{statement}
+use Rattle.book.proofs.reader.rest_refusal.Tie as tie
 
 abbrev Inv-loop : tie.InvT-loop
-Inv-loop book size count entries₀ at₀ i₀ entries at i = Walk book entries at i
+Inv-loop book size count at₀ i₀ at i = Walk book at i
 
 abbrev μ-loop : tie.MeasureT-loop
-μ-loop book size count entries₀ at₀ i₀ entries at i = count - i
+μ-loop book size count at₀ i₀ at i = count - i
 
 shared-slice-read-count : tie.Need-shared-slice-read-count Inv-loop μ-loop
 shared-slice-read-count c = omega (arith, headed (c .before .before .args .book .now) (c .before .before .pre))
@@ -55,25 +55,15 @@ entry-in-requires c κs = search needs
 entry-refusal-requires : tie.Need-entry-refusal-requires Inv-loop μ-loop
 entry-refusal-requires c κs = search needs
 
-refused-requires : tie.Need-refused-requires Inv-loop μ-loop
-refused-requires c κs = search needs
-
 returns : tie.Need-returns Inv-loop μ-loop
 returns c =
-    let book = c .before .before .before .before .before .before .before .before .before .before .args .book .now in
-    let w = c .before .before .before .before .before .before .loop in
-    let read = c .before .before .before .entry-in .ensures ∙ ap entryIn (rest-part (2 + 12 * w .i) book) in
-    c .refused .ensures
-    ∙ walk-refused (w .inv) (c .before .before .before .before .before .loop-test .taken)
-    (c .before .before .entry-refusal .result)
-    (c .before .before .entry-refusal .ensures ∙ ap (λ (e : Entry). firstOf (entryFaults (length book) (w .at) e)) read)
-    (c .before .if1 .taken)
-
-mul-entries : tie.Need-mul-entries Inv-loop μ-loop
-mul-entries c = search needs
-
-array-set-from-entries : tie.Need-array-set-from-entries Inv-loop μ-loop
-array-set-from-entries c = search needs
+    let book = c .before .before .before .before .before .before .before .before .before .args .book .now in
+    let w = c .before .before .before .before .before .loop in
+    let read = c .before .before .entry-in .ensures ∙ ap entryIn (rest-part (2 + 12 * w .i) book) in
+    walk-refused (w .inv) (c .before .before .before .before .loop-test .taken)
+    (c .before .entry-refusal .result)
+    (c .before .entry-refusal .ensures ∙ ap (λ (e : Entry). firstOf (entryFaults (length book) (w .at) e)) read)
+    (c .if1 .taken)
 
 body-size-requires : tie.Need-body-size-requires Inv-loop μ-loop
 body-size-requires c κs = search needs
@@ -98,19 +88,14 @@ loop-again c =
     ∙ sym (c .before .before .entry-refusal .ensures)
     ∙ c .before .if1 .left))
 
-refused-requires-2 : tie.Need-refused-requires-2 Inv-loop μ-loop
-refused-requires-2 c κs = search needs
-
 returns-2 : tie.Need-returns-2 Inv-loop μ-loop
-returns-2 c =
-    c .refused2 .ensures
-    ∙ walk-left-over (c .before .before .before .loop .inv) (c .before .before .loop-test .left) (c .before .if2 .taken)
+returns-2 c = walk-left-over (c .before .before .loop .inv) (c .before .loop-test .left) (c .if2 .taken)
 
 returns-3 : tie.Need-returns-3 Inv-loop μ-loop
 returns-3 c = walk-done (c .before .before .loop .inv) (c .before .loop-test .left) (c .if2 .left)
 
-pub entries-read-spec : {M : Type 1} → statement M
-entries-read-spec =
+pub rest-refusal-spec : {M : Type 1} → statement M
+rest-refusal-spec =
     tie.close
     (tie.spec
     Inv-loop
@@ -126,15 +111,11 @@ entries-read-spec =
     part-entry-in-end
     entry-in-requires
     entry-refusal-requires
-    refused-requires
     returns
-    mul-entries
-    array-set-from-entries
     body-size-requires
     add-at
     add-i
     loop-less
     loop-again
-    refused-requires-2
     returns-2
     returns-3)

@@ -1,4 +1,4 @@
--- `put_contents` meets its contract.
+-- `put_entries` meets its contract.
 use mathlib.Core.Path.{ap, _∙_}
 use Prim.Native.Nat.{_+_, _*_, _-_}
 use native.Mathlib.Omega.{arith}
@@ -9,8 +9,8 @@ use Rattle.book.specs.Format.{entryBytes}
 use Rattle.book.specs.Writer.{counted, stepsOf}
 use Rattle.book.specs.declared.Entry.{Entry}
 use Rattle.book.proofs.Filling.{Filling, fill-start, fill-inside, fill-next, fill-done}
-use Rattle.book.proofs.writer.put_contents.Statement.{statement}
-use Rattle.book.proofs.writer.put_contents.Tie as tie
+use Rattle.book.proofs.writer.put_entries.Statement.{statement}
+use Rattle.book.proofs.writer.put_entries.Tie as tie
 
 abbrev Inv-loop : tie.InvT-loop
 Inv-loop out₀ count entries at₀ i₀ out at i = Filling out₀ out count entries at i
@@ -90,8 +90,8 @@ same-length c = search needs
 returns : tie.Need-returns Inv-loop μ-loop
 returns c = fill-done (c .before .loop .inv) (c .loop-test .left)
 
-pub put-contents-spec : {M : Type 1} → statement M
-put-contents-spec =
+pub put-entries-spec : {M : Type 1} → statement M
+put-entries-spec =
     tie.close
     (tie.spec
     Inv-loop
