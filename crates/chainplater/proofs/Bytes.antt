@@ -1,0 +1,78 @@
+-- Laws behind the front door: records in bytes and back, a refused step's bytes, flags, and the judge's one answer.
+use mathlib.Core.Path.{_≡_, refl, sym, ap, _∙_}
+use mathlib.Core.Bool.{Bool, true, false, and-false}
+use mathlib.Core.List.{List, [], _∷_, _++_}
+use Prim.Native.Nat.{ℕ, _<_}
+use native.Mathlib.Omega.{arith}
+use lib.ListN.{length, getD, replicate}
+use lib.Seq.{take-all}
+use borrow.Author.Tests.{lt-ltb}
+use Rattle.basics.proofs.Fields.{fields-back, fields-again}
+use Rattle.pair.specs.Coder.{sectionsFit, encoding}
+use Rattle.controller.specs.Refusals.{refusal}
+use Rattle.controller.specs.Step.{moved, step}
+use Rattle.controller.specs.declared.Controller.{Controller}
+use Rattle.controller.specs.declared.Outcome.{Outcome}
+use Rattle.controller.proofs.Keeping.{step-refused}
+use Rattle.explain.specs.Verdict.{Judging}
+use Rattle.explain.proofs.Exact.{right-one}
+use Rattle.chainplater.specs.Coder.{flag, encodingBytes}
+use Rattle.chainplater.specs.Record.{layout, fields, named, recordIn, recordBytes, outcomeBytes}
+use Rattle.chainplater.specs.Verdict.{judgingBytes, Judged}
+
+pub record-size : (s : Controller) → length (recordBytes s) ≡ 10
+unfolding recordBytes
+record-size s = refl
+
+pub outcome-size : (o : Outcome) → length (outcomeBytes o) ≡ 17
+unfolding recordBytes outcomeBytes
+outcome-size o = refl
+
+pub record-back : (s : Controller) → recordIn (recordBytes s) ≡ s
+unfolding recordIn recordBytes
+record-back s = ap named (fields-back layout (fields s) [] [] refl)
+
+module _ (bytes : List ℕ) (long : length bytes ≡ 10) (small : (i : ℕ) → getD bytes i 0 < 256) where
+  pub record-again : recordBytes (recordIn bytes) ≡ bytes
+  unfolding recordIn recordBytes
+  record-again = fields-again bytes small layout 0 (omega arith) ∙ take-all 10 bytes (omega arith)
+
+  module _ (k1 k2 : ℕ) (conditions : List ℕ) (command c : ℕ) where
+    none-refused : refusal (recordIn bytes) conditions command c ≡ 0
+        → step (recordIn bytes) k1 k2 conditions command c .refusal ≡ 0
+    unfolding step moved
+    none-refused z = rw z
+
+    pub refused-bytes : let o = step (recordIn bytes) k1 k2 conditions command c in
+        (o .refusal ≡ 0 → ⊥) → outcomeBytes o ≡ o .refusal ∷ bytes ++ replicate 6 0
+    unfolding outcomeBytes
+    refused-bytes some =
+        let number = refusal (recordIn bytes) conditions command c in
+        rw (step-refused (recordIn bytes) k1 k2 conditions command c (λ z. some (none-refused z)))
+        (ap (λ (l : List ℕ). number ∷ l ++ replicate 6 0) record-again)
+
+-- a flag is taken as it is answered, and one above 1 is refused
+module _ (n code channel bridged : ℕ) where
+  pub flag-taken : (remote : Bool)
+      → encodingBytes n code channel bridged (flag remote)
+      ≡ encoding n (record { code = code; channel = channel; bridged = bridged; remote = remote })
+  unfolding encodingBytes
+  flag-taken true = rw (and-false (sectionsFit n))
+  flag-taken false = rw (and-false (sectionsFit n))
+
+  pub flag-refused : (remote : ℕ) → sectionsFit n ≡ true → 1 < remote
+      → encodingBytes n code channel bridged remote ≡ record { refusal = 10; k1 = 0; k2 = 0 }
+  unfolding encodingBytes
+  flag-refused remote fits above = rw (fits, lt-ltb 1 remote above)
+
+-- two answers of the judge that its promise allows
+module _ {n mask w r s : ℕ} {capture out after : List ℕ} (p : Judged n mask w capture r out)
+    (q : Judged n mask w capture s after) where
+  same-answer : p .answer ≡ q .answer
+  same-answer = right-one n mask w capture (p .answer) (q .answer) (p .right) (q .right)
+
+  pub same-refusal : r ≡ s
+  same-refusal = p .number ∙ ap (λ (j : Judging). j .refusal) same-answer ∙ sym (q .number)
+
+  pub same-bytes : out ≡ after
+  same-bytes = p .bytes ∙ ap judgingBytes same-answer ∙ sym (q .bytes)

@@ -1,0 +1,3 @@
+-- Theorems is the front door.
+mod Bytes
+mod Theorems

@@ -1,0 +1,172 @@
+-- The front door: what is proved of the door for C and Rust, each theorem in full with the line that cites its proof.
+use mathlib.Core.Path.{_≡_, refl}
+use mathlib.Core.Bool.{Bool, true}
+use mathlib.Core.List.{List, _∷_, _++_}
+use Prim.Native.Nat.{ℕ, _<_}
+use lib.ListN.{length, getD, replicate}
+use denote.Ref.{now}
+use Rattle.basics.specs.Bytes.{fourBytes}
+use Rattle.basics.proofs.One.{OneAnswer, OneContent, one-value}
+use Rattle.pair.specs.Coder.{Decoding, Encoding, sectionsFit, encoding}
+use Rattle.controller.specs.Step.{step}
+use Rattle.controller.specs.declared.Controller.{Controller}
+use Rattle.controller.specs.declared.Outcome.{Outcome}
+use Rattle.explain.specs.Verdict.{Judging}
+use Rattle.book.specs.Format.{contentsIn, bytesOf}
+use Rattle.book.specs.Reader.{reading}
+use Rattle.book.proofs.Lists.{length-listed}
+use Rattle.book.proofs.Trips.{contents-back, read-places}
+use Rattle.chainplater.specs.Coder.{flag, decodedBytes, encodedBytes, encodingBytes}
+use Rattle.chainplater.specs.Record.{recordIn, recordBytes, outcomeBytes}
+use Rattle.chainplater.specs.Verdict.{judgingBytes}
+use Rattle.chainplater.proofs.Bytes.{record-size, outcome-size, record-back, record-again, refused-bytes}
+use Rattle.chainplater.proofs.Bytes.{flag-taken, flag-refused, same-refusal, same-bytes}
+use Rattle.chainplater.proofs.chainplater_fresh.Kinds as fresh-kinds
+use Rattle.chainplater.proofs.chainplater_fresh.Reads as fresh-fn
+use Rattle.chainplater.proofs.chainplater_fresh.Statement as fresh-statement
+use Rattle.chainplater.proofs.chainplater_fresh.Met as fresh-met
+use Rattle.chainplater.proofs.chainplater_decode.Kinds as decode-kinds
+use Rattle.chainplater.proofs.chainplater_decode.Reads as decode-fn
+use Rattle.chainplater.proofs.chainplater_decode.Statement as decode-statement
+use Rattle.chainplater.proofs.chainplater_decode.Met as decode-met
+use Rattle.chainplater.proofs.chainplater_encode.Kinds as encode-kinds
+use Rattle.chainplater.proofs.chainplater_encode.Reads as encode-fn
+use Rattle.chainplater.proofs.chainplater_encode.Statement as encode-statement
+use Rattle.chainplater.proofs.chainplater_encode.Met as encode-met
+use Rattle.chainplater.proofs.chainplater_step.Kinds as step-kinds
+use Rattle.chainplater.proofs.chainplater_step.Reads as step-fn
+use Rattle.chainplater.proofs.chainplater_step.Statement as step-statement
+use Rattle.chainplater.proofs.chainplater_step.Met as step-met
+use Rattle.chainplater.proofs.chainplater_judge.Kinds as judge-kinds
+use Rattle.chainplater.proofs.chainplater_judge.Reads as judge-fn
+use Rattle.chainplater.proofs.chainplater_judge.Statement as judge-statement
+use Rattle.chainplater.proofs.chainplater_judge.Met as judge-met
+use Rattle.chainplater.proofs.chainplater_read.Kinds as read-kinds
+use Rattle.chainplater.proofs.chainplater_read.Reads as read-fn
+use Rattle.chainplater.proofs.chainplater_read.Statement as read-statement
+use Rattle.chainplater.proofs.chainplater_read.Met as read-met
+use Rattle.chainplater.proofs.chainplater_write.Kinds as write-kinds
+use Rattle.chainplater.proofs.chainplater_write.Reads as write-fn
+use Rattle.chainplater.proofs.chainplater_write.Statement as write-statement
+use Rattle.chainplater.proofs.chainplater_write.Met as write-met
+
+-- Each function answers, and leaves in the memory that it was lent, what the definitions say, for every input. (`statement`
+-- is the contract, as the checker reads it off the source; it asks nothing of the caller.)
+fresh-right : {M : Type 1} → fresh-statement.statement M
+fresh-right = fresh-met.met
+
+decode-right : {M : Type 1} → decode-statement.statement M
+decode-right = decode-met.met
+
+encode-right : {M : Type 1} → encode-statement.statement M
+encode-right = encode-met.met
+
+step-right : {M : Type 1} → step-statement.statement M
+step-right = step-met.met
+
+judge-right : {M : Type 1} → judge-statement.statement M
+judge-right = judge-met.met
+
+read-right : {M : Type 1} → read-statement.statement M
+read-right = read-met.met
+
+write-right : {M : Type 1} → write-statement.statement M
+write-right = write-met.met
+
+-- Two answers that the promise of a function allows are equal, and so are two contents of each output. (`Post` is the
+-- function's `ensures`.)
+fresh-unique : OneAnswer 1 fresh-kinds.ps fresh-kinds.r fresh-fn.Post
+fresh-unique κs args x y s t p q = one-value (p .0) (q .0)
+
+record-unique : OneContent 1 fresh-kinds.ps fresh-kinds.r fresh-fn.Post (λ κs exit. now (exit .1 .1 .1 .0))
+record-unique κs args x y s t p q = one-value (p .1) (q .1)
+
+decode-unique : OneAnswer 1 decode-kinds.ps decode-kinds.r decode-fn.Post
+decode-unique κs args x y s t p q = one-value (p .0) (q .0)
+
+decoded-unique : OneContent 1 decode-kinds.ps decode-kinds.r decode-fn.Post (λ κs exit. now (exit .1 .1 .1 .0))
+decoded-unique κs args x y s t p q = one-value (p .1) (q .1)
+
+encode-unique : OneAnswer 1 encode-kinds.ps encode-kinds.r encode-fn.Post
+encode-unique κs args x y s t p q = one-value (p .0) (q .0)
+
+encoded-unique : OneContent 1 encode-kinds.ps encode-kinds.r encode-fn.Post (λ κs exit. now (exit .1 .1 .1 .1 .1 .0))
+encoded-unique κs args x y s t p q = one-value (p .1) (q .1)
+
+step-unique : OneAnswer 3 step-kinds.ps step-kinds.r step-fn.Post
+step-unique κs args x y s t p q = one-value (p .0) (q .0)
+
+stepped-unique : OneContent 3 step-kinds.ps step-kinds.r step-fn.Post (λ κs exit. now (exit .1 .1 .1 .1 .1 .1 .0))
+stepped-unique κs args x y s t p q = one-value (p .1) (q .1)
+
+judge-unique : OneAnswer 2 judge-kinds.ps judge-kinds.r judge-fn.Post
+judge-unique κs args x y s t p q = same-refusal p q
+
+judged-unique : OneContent 2 judge-kinds.ps judge-kinds.r judge-fn.Post (λ κs exit. now (exit .1 .1 .1 .1 .0))
+judged-unique κs args x y s t p q = same-bytes p q
+
+read-unique : OneAnswer 2 read-kinds.ps read-kinds.r read-fn.Post
+read-unique κs args x y s t p q = one-value (p .0) (q .0)
+
+contents-unique : OneContent 2 read-kinds.ps read-kinds.r read-fn.Post (λ κs exit. now (exit .1 .0))
+contents-unique κs args x y s t p q = one-value (p .1) (q .1)
+
+write-unique : OneAnswer 4 write-kinds.ps write-kinds.r write-fn.Post
+write-unique κs args x y s t p q = one-value (p .0) (q .0)
+
+book-unique : OneContent 4 write-kinds.ps write-kinds.r write-fn.Post (λ κs exit. now (exit .1 .1 .0))
+book-unique κs args x y s t p q = one-value (p .1 .0) (q .1 .0)
+
+size-unique : OneContent 4 write-kinds.ps write-kinds.r write-fn.Post (λ κs exit. now (exit .1 .1 .1 .0))
+size-unique κs args x y s t p q = one-value (p .1 .1) (q .1 .1)
+
+-- The outputs have as many bytes as the functions are lent.
+record-long : (s : Controller) → length (recordBytes s) ≡ 10
+record-long = record-size
+
+decoded-long : (d : Decoding) → length (decodedBytes d) ≡ 5
+decoded-long d = refl
+
+encoded-long : (e : Encoding) → length (encodedBytes e) ≡ 2
+encoded-long e = refl
+
+stepped-long : (o : Outcome) → length (outcomeBytes o) ≡ 17
+stepped-long = outcome-size
+
+judged-long : (j : Judging) → length (judgingBytes j) ≡ 3
+judged-long j = refl
+
+contents-long : (book : List ℕ) → length (bytesOf (reading book .contents)) ≡ 769
+contents-long book = length-listed (reading book .contents) (read-places book)
+
+size-long : (size : ℕ) → length (fourBytes size) ≡ 4
+size-long size = refl
+
+-- A record that is handed out comes back as it was; and one that is handed in, whatever its bytes, is handed out byte for
+-- byte. So a refused step hands back the bytes that it was given, behind its number and before zeros.
+record-right : (s : Controller) → recordIn (recordBytes s) ≡ s
+record-right = record-back
+
+record-complete : (bytes : List ℕ) → length bytes ≡ 10 → ((i : ℕ) → getD bytes i 0 < 256)
+    → recordBytes (recordIn bytes) ≡ bytes
+record-complete = record-again
+
+step-refused : (bytes : List ℕ) → length bytes ≡ 10 → ((i : ℕ) → getD bytes i 0 < 256)
+    → (k1 k2 : ℕ) (conditions : List ℕ) (command c : ℕ) →
+    let o = step (recordIn bytes) k1 k2 conditions command c in
+    (o .refusal ≡ 0 → ⊥) → outcomeBytes o ≡ o .refusal ∷ bytes ++ replicate 6 0
+step-refused = refused-bytes
+
+-- The contents that are read are the contents that are written, if their bytes are handed on.
+contents-right : (book : List ℕ) → contentsIn (bytesOf (reading book .contents)) ≡ reading book .contents
+contents-right book = contents-back (reading book .contents) (read-places book)
+
+-- A flag is encoded as it was decoded, and one that no pair decodes to has refusal 10, behind refusal 1.
+flag-right : (n code channel bridged : ℕ) (remote : Bool)
+    → encodingBytes n code channel bridged (flag remote)
+    ≡ encoding n (record { code = code; channel = channel; bridged = bridged; remote = remote })
+flag-right = flag-taken
+
+flag-complete : (n code channel bridged remote : ℕ) → sectionsFit n ≡ true → 1 < remote
+    → encodingBytes n code channel bridged remote ≡ record { refusal = 10; k1 = 0; k2 = 0 }
+flag-complete = flag-refused

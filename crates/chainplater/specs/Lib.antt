@@ -1,0 +1,4 @@
+-- What a reader has to believe of the door for C and Rust: which bytes stand for which answer.
+pub mod Record
+pub mod Coder
+pub mod Verdict

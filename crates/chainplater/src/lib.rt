@@ -1,0 +1,195 @@
+// The door for C and Rust: numbers and bytes alone. `include/chainplater.h` says the same to a C programmer.
+mod record;
+
+use crate::record::outcome_bytes;
+use crate::record::record_bytes;
+use crate::record::record_in;
+use book::Writing;
+use controller::Controller;
+use controller::Made;
+use explain::Verdict;
+use pair::Decoded;
+use pair::Encoded;
+use pair::Pair;
+ghost use Rattle.basics.specs.Bytes.{fourBytes};
+ghost use Rattle.book.specs.Format.{contentsIn, bytesOf};
+ghost use Rattle.book.specs.Reader.{reading};
+ghost use Rattle.book.specs.Writer.{writing, output};
+ghost use Rattle.chainplater.specs.Coder.{flag, decodedBytes, encodedBytes, encodingBytes};
+ghost use Rattle.chainplater.specs.Record.{recordIn, recordBytes, outcomeBytes};
+ghost use Rattle.chainplater.specs.Verdict.{Judged};
+ghost use Rattle.controller.specs.Settings.{making};
+ghost use Rattle.controller.specs.Step.{step};
+ghost use Rattle.pair.specs.Coder.{decoding};
+ghost use lib.ListN.{length};
+ghost use mathlib.Core.Path.{_≡_};
+
+#[no_mangle]
+pub extern "C" fn chainplater_fresh(n: u8, mask: u16, wait: u16, out: &mut [u8; 10]) -> u8
+    ensures { λ r. ⌜ r ≡ making n mask wait .refusal ⌝ }
+    ensures { λ _. ⌜ now (out .exit) ≡ recordBytes (making n mask wait .controller) ⌝ }
+{
+    match Controller::fresh(n, mask, wait) {
+        Made::Fresh(s) => {
+            *out = record_bytes(s);
+            0
+        }
+        Made::Refused(k) => {
+            *out = [0u8; 10];
+            k
+        }
+    }
+}
+
+fn flag(remote: bool) -> u8
+    ensures { λ r. ⌜ r ≡ flag remote ⌝ }
+{
+    if remote { 1 } else { 0 }
+}
+
+#[no_mangle]
+pub extern "C" fn chainplater_decode(n: u8, k1: u8, k2: u8, out: &mut [u8; 5]) -> u8
+    ensures { λ r. ⌜ r ≡ decoding n k1 k2 .refusal ⌝ }
+    ensures { λ _. ⌜ now (out .exit) ≡ decodedBytes (decoding n k1 k2) ⌝ }
+{
+    match pair::decode(n, k1, k2) {
+        Decoded::Usable(p) => {
+            *out = [0, p.code, p.channel, p.bridged, flag(p.remote)];
+            0
+        }
+        Decoded::Marked(m) => {
+            *out = [m, 0, 0, 0, 0];
+            0
+        }
+        Decoded::Refused(k) => {
+            *out = [0, 0, 0, 0, 0];
+            k
+        }
+    }
+}
+
+#[no_mangle]
+pub extern "C" fn chainplater_encode(
+    n: u8,
+    code: u8,
+    channel: u8,
+    bridged: u8,
+    remote: u8,
+    out: &mut [u8; 2],
+) -> u8
+    ensures { λ r. ⌜ r ≡ encodingBytes n code channel bridged remote .refusal ⌝ }
+    ensures { λ _. ⌜ now (out .exit) ≡ encodedBytes (encodingBytes n code channel bridged remote) ⌝ }
+{
+    // no usable pair decodes to a flag above 1 (01, refusal 10); refusal 1 comes before it
+    if pair::sections_fit(n) & (1 < remote) {
+        *out = [0, 0];
+        return 10;
+    }
+    let p = Pair {
+        code,
+        channel,
+        bridged,
+        remote: remote == 1,
+    };
+    match pair::encode(n, p) {
+        Encoded::Bytes(k1, k2) => {
+            *out = [k1, k2];
+            0
+        }
+        Encoded::Refused(k) => {
+            *out = [0, 0];
+            k
+        }
+    }
+}
+
+#[no_mangle]
+pub extern "C" fn chainplater_step(
+    given: &[u8; 10],
+    k1: u8,
+    k2: u8,
+    conditions: &[u8],
+    command: u8,
+    channel: u8,
+    out: &mut [u8; 17],
+) -> u8
+    ensures { λ r. ⌜ r ≡ step (recordIn (now (given .entry))) k1 k2 (now (conditions .entry)) command channel .refusal ⌝ }
+    ensures { λ _. ⌜ now (out .exit) ≡ outcomeBytes (step (recordIn (now (given .entry))) k1 k2 (now (conditions .entry)) command channel) ⌝ }
+{
+    let o = record_in(given).step(k1, k2, conditions, command, channel);
+    *out = outcome_bytes(o);
+    o.refusal
+}
+
+#[no_mangle]
+pub extern "C" fn chainplater_judge(
+    n: u8,
+    mask: u16,
+    wait: u16,
+    capture: &[u8],
+    out: &mut [u8; 3],
+) -> u8
+    ensures { λ r. ⌜ Judged n mask wait (now (capture .entry)) r (now (out .exit)) ⌝ }
+{
+    match explain::judge(n, mask, wait, capture) {
+        Verdict::Explained(k) => {
+            *out = [1, (k / 256) as u8, (k % 256) as u8];
+            0
+        }
+        Verdict::Unexplained(i) => {
+            *out = [2, (i / 256) as u8, (i % 256) as u8];
+            0
+        }
+        Verdict::Refused(k) => {
+            *out = [0, 0, 0];
+            k
+        }
+    }
+}
+
+#[no_mangle]
+pub extern "C" fn chainplater_read(book: &[u8], out: &mut [u8; 769]) -> u8
+    ensures { λ r. ⌜ r ≡ reading (now (book .entry)) .refusal ⌝ }
+    ensures { λ _. ⌜ now (out .exit) ≡ bytesOf (reading (now (book .entry)) .contents) ⌝ }
+{
+    let answer = book::read(book);
+    let contents = answer.contents;
+    book::put_contents(out, contents);
+    answer.refusal
+}
+
+fn four_bytes(v: u32) -> [u8; 4]
+    ensures { λ r. ⌜ r ≡ fourBytes v ⌝ }
+{
+    let high = v / 65536;
+    let low = v % 65536;
+    [
+        (high / 256) as u8,
+        (high % 256) as u8,
+        (low / 256) as u8,
+        (low % 256) as u8,
+    ]
+}
+
+#[no_mangle]
+pub extern "C" fn chainplater_write(
+    contents: &[u8; 769],
+    bodies: &[u8],
+    out: &mut [u8],
+    size: &mut [u8; 4],
+) -> u8
+    ensures { λ r. ⌜ r ≡ writing (contentsIn (now (contents .entry))) (length (now (bodies .entry))) (length (now (out .entry))) .refusal ⌝ }
+    ensures { λ _. ⌜ now (out .exit) ≡ output (contentsIn (now (contents .entry))) (now (bodies .entry)) (now (out .entry)) ⌝ }
+    ensures { λ _. ⌜ now (size .exit) ≡ fourBytes (writing (contentsIn (now (contents .entry))) (length (now (bodies .entry))) (length (now (out .entry))) .bytes) ⌝ }
+{
+    match book::write(book::contents_in(contents), bodies, out) {
+        Writing::Written(k) => {
+            *size = four_bytes(k as u32);
+            0
+        }
+        Writing::Refused(number) => {
+            *size = [0, 0, 0, 0];
+            number
+        }
+    }
+}

@@ -1,0 +1,112 @@
+/*
+ * Chainplater: the K1/K2 coder, the controller for linear 1:n multiplex section protection (ITU-T G.841), the judge
+ * of captured lines, and the reader and writer of capture books. The code behind these functions is proved; see
+ * README.md for what the proofs say and what they rest on.
+ *
+ * Every function takes every value of its arguments, ends, and returns 0 or the number of a refusal:
+ *
+ *    1  n is not 1 to 14                     20  a book of more than 65,536 bytes
+ *    2  the mask has a bit at n or above     21  a book of fewer than 2 bytes
+ *    3  the record is not acceptable         22  byte 0 of the book is not 1
+ *    4  the conditions are not n + 1         23  more than 64 captures
+ *    5  a condition is above 2               24  the contents are cut short
+ *    6  the command is above 4               25  a spare byte is not 0
+ *    7  the channel does not fit the command 26  a body is not where the one before it ends
+ *    8  the capture is not whole steps       27  a body ends past the book
+ *    9  the capture has over 16,384 steps    28  bytes are left over
+ *   10  no pair codes that record            29  the output has too little room
+ *                                            30  the bodies are not as long as the contents say
+ *
+ * Where several apply, the first in this order is returned; for chainplater_write the order is 23, 30, 20, 29.
+ *
+ * Memory. Every pointer points to as many bytes as its parameter says, also where a length is 0: it is then any pointer
+ * but NULL. Memory that a function writes to overlaps no other memory that it is lent. Memory that is `const` is
+ * only read. Nothing is kept after the call, nothing is allocated, and no function has state: all may be called from
+ * several threads at once. Numbers of more than one byte are big-endian.
+ *
+ * A record of a controller is 10 bytes: n (1), mask (2), W (2), accepted K1 (1), accepted K2 (1), K1 last sent (1),
+ * steps of wait left (2).
+ */
+#ifndef CHAINPLATER_H
+#define CHAINPLATER_H
+
+#include <stddef.h>
+#include <stdint.h>
+
+#ifdef __cplusplus
+extern "C" {
+#endif
+
+#define CHAINPLATER_RECORD 10
+#define CHAINPLATER_DECODED 5
+#define CHAINPLATER_ENCODED 2
+#define CHAINPLATER_STEP 17
+#define CHAINPLATER_VERDICT 3
+#define CHAINPLATER_CONTENTS 769
+#define CHAINPLATER_SIZE 4
+
+/*
+ * A fresh controller for n sections, of which those in the mask (bit c - 1 for section c) are of high priority, with a
+ * wait to restore of `wait` steps. Refusals 1, 2.
+ * record: the record; zeros where refused.
+ */
+uint8_t chainplater_fresh(uint8_t n, uint16_t mask, uint16_t wait, uint8_t record[CHAINPLATER_RECORD]);
+
+/*
+ * What a pair of bytes says on a line of n sections. Refusal 1.
+ * out: 0 mark (0: the pair is usable; 1 to 5: why it is not), 1 request code, 2 channel, 3 bridged channel, 4 remote
+ * defect (1 or 0). All but the mark is 0 where the pair is not usable; all is 0 where refused.
+ */
+uint8_t chainplater_decode(uint8_t n, uint8_t k1, uint8_t k2, uint8_t out[CHAINPLATER_DECODED]);
+
+/*
+ * The pair of bytes that decodes to what is given. Refusals 1 and 10; a `remote` above 1 is refusal 10.
+ * out: 0 K1, 1 K2; zeros where refused.
+ */
+uint8_t chainplater_encode(uint8_t n, uint8_t code, uint8_t channel, uint8_t bridged, uint8_t remote,
+                           uint8_t out[CHAINPLATER_ENCODED]);
+
+/*
+ * One step: the controller of that record receives k1 and k2, sees the conditions of sections 0 to n (0 good, 1
+ * degraded, 2 failed; `count` is n + 1) and is given a command (0 none, 1 clear, 2 lockout, 3 forced switch, 4 manual
+ * switch) for a channel (0 for the first three, 1 to n for the other two). Refusals 1 to 7.
+ * out: 0 the refusal, 1 to 10 the record after the step, 11 K1 sent, 12 K2 sent, 13 channel bridged, 14 channel
+ * selected, 15 mark of the received pair, 16 fate of the command (0 none was given, 1 taken, 2 denied). Where
+ * refused: the refusal, the record as it was given, and zeros.
+ */
+uint8_t chainplater_step(const uint8_t record[CHAINPLATER_RECORD], uint8_t k1, uint8_t k2,
+                         const uint8_t *conditions, size_t count, uint8_t command, uint8_t channel,
+                         uint8_t out[CHAINPLATER_STEP]);
+
+/*
+ * The judge. A capture is four bytes a step: K1 and K2 received, K1 and K2 sent. It is explained if there are section
+ * conditions and commands, one set a step, with which a fresh controller of these settings, receiving those bytes, sends
+ * precisely these. Refusals 1, 2, 8, 9.
+ * out: 0 the verdict (1 explained, 2 unexplained, 0 refused), 1 and 2 the number of steps if explained, the first
+ * step, counted from 0, up to which there is no explanation if not, 0 where refused.
+ */
+uint8_t chainplater_judge(uint8_t n, uint16_t mask, uint16_t wait, const uint8_t *capture, size_t length,
+                          uint8_t out[CHAINPLATER_VERDICT]);
+
+/*
+ * The contents of a book. Refusals 20 to 28.
+ * out: 0 the count of captures, then 64 places of 12 bytes: n (1), spare (1), mask (2), W (2), offset of the body in
+ * the book (4), steps (2). The places past the count are zeros; all is 0 where refused. A body is four bytes a
+ * step, from its offset.
+ */
+uint8_t chainplater_read(const uint8_t *book, size_t length, uint8_t out[CHAINPLATER_CONTENTS]);
+
+/*
+ * The book of some contents, laid out as chainplater_read answers them, and of the bodies joined in that order. The
+ * spare and offset bytes of the places, and the places past the count, are not looked at. Refusals 23, 30, 20, 29.
+ * out: the book at its start, the bytes behind it as they were; refused: all as it was.
+ * size: the number of bytes of the book (4); zeros where refused.
+ */
+uint8_t chainplater_write(const uint8_t contents[CHAINPLATER_CONTENTS], const uint8_t *bodies, size_t length,
+                          uint8_t *out, size_t room, uint8_t size[CHAINPLATER_SIZE]);
+
+#ifdef __cplusplus
+}
+#endif
+
+#endif
