@@ -13,7 +13,7 @@ pub const MOST_ENTRIES: usize = 64;
 const FIRST_BYTE: u8 = 1;
 /// The first byte and the count.
 const HEAD_BYTES: usize = 2;
-const ENTRY_BYTES: usize = 12;
+pub const ENTRY_BYTES: usize = 12;
 /// The pair received and the pair sent (paper: "The judge").
 pub const STEP_BYTES: usize = 4;
 
@@ -69,7 +69,7 @@ impl Entry {
         steps: 0,
     };
 
-    fn from_bytes(bytes: [u8; ENTRY_BYTES]) -> Self {
+    pub fn from_bytes(bytes: [u8; ENTRY_BYTES]) -> Self {
         let [n, spare, m1, m0, w1, w0, o3, o2, o1, o0, s1, s0] = bytes;
         Self {
             n,
@@ -81,7 +81,7 @@ impl Entry {
         }
     }
 
-    fn to_bytes(self) -> [u8; ENTRY_BYTES] {
+    pub fn to_bytes(self) -> [u8; ENTRY_BYTES] {
         let [m1, m0] = self.mask.to_be_bytes();
         let [w1, w0] = self.w.to_be_bytes();
         let [o3, o2, o1, o0] = self.offset.to_be_bytes();

@@ -6,6 +6,7 @@
 //! not matter, and nothing is worked out backwards from the bytes: this is there
 //! to check a judge that is quicker.
 
+pub mod scan;
 pub mod table;
 
 use crate::book::{MOST_BYTES, STEP_BYTES};

@@ -1,9 +1,10 @@
 //! A second reading of the scope paper.
 //!
-//! Everything here was written from the paper alone. None of it comes from the
-//! Rattle source, by copying or by looking: two programs that share an author's
-//! misreading agree with each other and prove nothing. Every landing that
-//! changes this package keeps it that way.
+//! Everything here was written from the paper alone, and `door` and `library` from
+//! `include/chainplater.h` besides. None of it comes from the Rattle source, by
+//! copying or by looking: two programs that share an author's misreading agree
+//! with each other and prove nothing. Every landing that changes this package
+//! keeps it that way.
 //!
 //! Three points were not reached so: what `pair::rank` answers for a channel that
 //! no group has, and `book::body` for an entry whose body is not all in the
@@ -14,25 +15,45 @@
 //! The programs are compared by what they print: `sequences` for the byte pair and
 //! the controller, `trials` for the capture book. For the judge there is a program
 //! of its own on the other side, so `books` runs it on many books and compares what
-//! it prints with what `judge` prints here. Where they differ, neither has
-//! precedence: the paper decides which one is wrong.
+//! it prints with what `judge` prints here.
+//!
+//! The proved library is linked, and called with the same arguments as this
+//! reading: `compare` looks for differences in what they answer and in all they
+//! are lent, `bench` for how long they take. `peer/run` builds the library and does
+//! both; a package that was built without it has the other commands only.
+//!
+//! Where the two readings differ, neither has precedence: the paper decides which
+//! one is wrong.
 
+mod bench;
 mod block;
 mod book;
 mod books;
+mod compare;
 mod controller;
+mod door;
 mod draws;
 mod judge;
+#[cfg(linked)]
+mod library;
+#[cfg(not(linked))]
+#[path = "library/missing.rs"]
+mod library;
 mod pair;
 mod sequences;
 mod trials;
 
+use library::Library;
 use std::ffi::OsString;
 use std::io::{self, BufWriter, StdoutLock, Write};
 use std::path::Path;
 use std::process::ExitCode;
 
-const USAGE: &str = "usage: peer sequences | trials | judge | books [PROGRAM]";
+const USAGE: &str = "usage: peer sequences | trials | judge | books [PROGRAM] | compare | bench";
+
+const MISSING: &str = "\
+peer: built without target/staticlib/libchainplater.a, which is for x86-64 alone
+peer: `peer/run` builds the archive, links it and runs `compare` and `bench`";
 
 type Printer = BufWriter<StdoutLock<'static>>;
 
@@ -45,6 +66,8 @@ fn main() -> ExitCode {
         [word] if word == "judge" => finish(print(|out| judge::table::write(io::stdin(), out))),
         [word] if word == "books" => compare_books(Path::new(books::USUAL_PROGRAM)),
         [word, program] if word == "books" => compare_books(Path::new(program)),
+        [word] if word == "compare" => with_library(compare_library),
+        [word] if word == "bench" => with_library(bench_library),
         _ => {
             complain(USAGE);
             ExitCode::from(2)
@@ -68,20 +91,45 @@ fn finish(printed: io::Result<()>) -> ExitCode {
     }
 }
 
-/// Fails if anything is found, or if what is found cannot be printed.
 fn compare_books(program: &Path) -> ExitCode {
-    let finding = match books::compare(program) {
-        Ok(finding) => finding,
+    match books::compare(program) {
+        Ok(finding) => report(finding.clean, &finding.text),
         Err(error) => {
             complain(&format!("peer: cannot run {}: {error}", program.display()));
-            return ExitCode::from(2);
+            ExitCode::from(2)
         }
-    };
-    let printed = finish(print(|out| out.write_all(&finding.text)));
-    if finding.clean {
+    }
+}
+
+fn compare_library(library: &Library) -> ExitCode {
+    match compare::compare(library) {
+        Ok(finding) => report(finding.clean, &finding.text),
+        failed => finish(failed.map(|_| ())),
+    }
+}
+
+fn bench_library(library: &Library) -> ExitCode {
+    finish(print(|out| bench::write(library, out)))
+}
+
+/// Fails if anything was found, or if what was found cannot be printed.
+fn report(clean: bool, text: &[u8]) -> ExitCode {
+    let printed = finish(print(|out| out.write_all(text)));
+    if clean {
         printed
     } else {
         ExitCode::FAILURE
+    }
+}
+
+/// Does what needs the library, or says that it is missing.
+fn with_library(work: impl FnOnce(&Library) -> ExitCode) -> ExitCode {
+    match library::linked() {
+        Some(library) => work(&library),
+        None => {
+            complain(MISSING);
+            ExitCode::from(2)
+        }
     }
 }
 

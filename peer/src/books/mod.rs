@@ -2,17 +2,17 @@
 //! of them, and what it prints is compared byte for byte with the table that this
 //! reading prints.
 
-mod capture;
-mod changes;
+pub mod capture;
+pub mod changes;
 mod commands;
 mod compare;
 mod crew;
 mod damage;
 mod lockout;
-mod pairs;
+pub mod pairs;
 mod process;
 mod report;
-mod runs;
+pub mod runs;
 mod steps;
 mod waits;
 
@@ -101,7 +101,8 @@ fn jobs() -> Vec<Job> {
 #[cfg(test)]
 mod tests {
     use super::*;
-    use crate::book;
+    use crate::book::{self, Contents};
+    use crate::judge::{judge, scan};
 
     /// Without those that stand in damaged books.
     #[test]
@@ -114,6 +115,27 @@ mod tests {
             .map(|contents| usize::from(contents.count))
             .sum();
         assert!(captures >= 20_000, "{captures}");
+    }
+
+    /// On those that brute force is quick with. Here are the captures that are made
+    /// to be hard: LO over a failed section 0, waits, commands in turn.
+    #[test]
+    fn the_judges_agree_on_short_captures() {
+        let mut captures = 0;
+        for Job { book, .. } in jobs() {
+            let contents = book::read(&book).unwrap_or(Contents::ZEROS);
+            let entries = contents.entries().unwrap_or_default();
+            for entry in entries
+                .iter()
+                .filter(|entry| entry.n <= 2 && entry.steps <= 6)
+            {
+                let (n, mask, w) = (entry.n, entry.mask, entry.w);
+                let rows = book::body(&book, entry);
+                assert_eq!(scan::judge(n, mask, w, rows), judge(n, mask, w, rows));
+                captures += 1;
+            }
+        }
+        assert!(captures >= 8_000, "{captures}");
     }
 
     #[test]

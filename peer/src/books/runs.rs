@@ -74,12 +74,7 @@ pub fn draw_of_any_settings(draws: &mut Draws, habit: Habit, steps: usize) -> Ca
 }
 
 pub fn draw(draws: &mut Draws, habit: Habit, settings: Settings, steps: usize) -> Capture {
-    let mut run = Run {
-        draws,
-        habit,
-        record: settings.fresh(),
-        conditions: vec![0; usize::from(settings.n) + 1],
-    };
+    let mut run = Run::new(draws, habit, settings);
     let rows: Vec<Row> = (0..steps).map(|_| run.step()).collect();
     Capture::new(settings, rows)
 }
@@ -97,19 +92,50 @@ pub fn draw_settings(draws: &mut Draws) -> Settings {
     }
 }
 
-/// A run between two steps.
-struct Run<'a> {
-    draws: &'a mut Draws,
-    habit: Habit,
-    record: Record,
-    conditions: Vec<u8>,
+/// What befalls one step of a run, besides the conditions of the sections.
+#[derive(Clone, Copy)]
+pub struct Given {
+    pub received: [u8; 2],
+    pub command: u8,
+    pub channel: u8,
 }
 
-impl Run<'_> {
-    fn step(&mut self) -> Row {
+/// A run between two steps.
+pub struct Run<'a> {
+    draws: &'a mut Draws,
+    habit: Habit,
+    /// What the last step left, and the next starts from.
+    pub record: Record,
+    pub conditions: Vec<u8>,
+}
+
+impl<'a> Run<'a> {
+    pub fn new(draws: &'a mut Draws, habit: Habit, settings: Settings) -> Self {
+        Self {
+            draws,
+            habit,
+            record: settings.fresh(),
+            conditions: vec![0; usize::from(settings.n) + 1],
+        }
+    }
+
+    pub fn draw(&mut self) -> Given {
         let received = self.draw_received();
         self.draw_conditions();
         let (command, channel) = self.draw_command();
+        Given {
+            received,
+            command,
+            channel,
+        }
+    }
+
+    fn step(&mut self) -> Row {
+        let Given {
+            received,
+            command,
+            channel,
+        } = self.draw();
         let [k1, k2] = received;
         let answer = controller::step(self.record, k1, k2, &self.conditions, command, channel);
         self.record = answer.record;

@@ -1,0 +1,130 @@
+//! The controller's step, over walks that stay in acceptable records.
+
+use super::{Row, Unit, Work, SETTINGS};
+use crate::books::capture::Settings;
+use crate::books::runs::{Given, Run, COMMON};
+use crate::controller;
+use crate::door::{record_bytes, record_of, Door, Peer, RECORD, STEP};
+use crate::draws::Draws;
+use std::hint::black_box;
+use std::io;
+
+/// Steps of a walk: more than a branch predictor learns by heart.
+const STEPS: usize = 16_384;
+const SEED: u64 = 21;
+
+const MOST_CONDITIONS: usize = 15;
+
+/// A start, and what befalls each step from there.
+struct Walk {
+    start: [u8; RECORD],
+    steps: Vec<([u8; MOST_CONDITIONS], Given)>,
+}
+
+impl Walk {
+    fn draw(settings: Settings) -> Self {
+        let mut draws = Draws::from_seed(SEED);
+        let mut run = Run::new(&mut draws, COMMON, settings);
+        let start = record_bytes(&run.record);
+        let steps = (0..STEPS).map(|_| draw_step(&mut run)).collect();
+        Self { start, steps }
+    }
+
+    fn sections(&self) -> usize {
+        usize::from(self.start[0]) + 1
+    }
+}
+
+fn draw_step(run: &mut Run) -> ([u8; MOST_CONDITIONS], Given) {
+    let given = run.draw();
+    let mut conditions = [0; MOST_CONDITIONS];
+    conditions[..run.conditions.len()].copy_from_slice(&run.conditions);
+    let [k1, k2] = given.received;
+    run.record = controller::step(
+        run.record,
+        k1,
+        k2,
+        &run.conditions,
+        given.command,
+        given.channel,
+    )
+    .record;
+    (conditions, given)
+}
+
+pub fn rows(library: &impl Door) -> io::Result<Vec<Row>> {
+    let mut rows = Vec::new();
+    for settings in SETTINGS {
+        let walk = Walk::draw(settings);
+        let name = format!("step, n = {}", settings.n);
+        let own = format!("{name}, Rust with its own record");
+        let work = |name| Work(name, Unit::Step, STEPS);
+        rows.push(work(name).measure(|| go(library, &walk), || go(&Peer, &walk))?);
+        rows.push(work(own).measure(|| go(library, &walk), || go_with_own_record(&walk))?);
+    }
+    Ok(rows)
+}
+
+/// The record of a step is read where the step before it was answered, so that
+/// feeding it back costs neither side a copy.
+fn go(door: &impl Door, walk: &Walk) -> [u8; RECORD] {
+    let sections = walk.sections();
+    let mut answers = [[0; STEP]; 2];
+    answers[0][1..=RECORD].copy_from_slice(&walk.start);
+    let [mut before, mut after] = answers.each_mut();
+    for (conditions, given) in &walk.steps {
+        let (record, conditions) = (record_in(before), &conditions[..sections]);
+        let Given {
+            received,
+            command,
+            channel,
+        } = *given;
+        door.step(record, received, conditions, command, channel, after);
+        std::mem::swap(&mut before, &mut after);
+    }
+    *record_in(before)
+}
+
+/// Without the bytes of the door: the record goes from step to step as it is.
+fn go_with_own_record(walk: &Walk) -> [u8; RECORD] {
+    let sections = walk.sections();
+    let mut record = record_of(&walk.start);
+    for (conditions, given) in &walk.steps {
+        let [k1, k2] = given.received;
+        let conditions = &conditions[..sections];
+        let answer = controller::step(record, k1, k2, conditions, given.command, given.channel);
+        record = black_box(answer).record;
+    }
+    record_bytes(&record)
+}
+
+fn record_in(answer: &[u8; STEP]) -> &[u8; RECORD] {
+    let [_, behind @ ..] = answer;
+    behind
+        .first_chunk()
+        .expect("a record stands behind the refusal")
+}
+
+#[cfg(test)]
+pub fn check(door: &impl Door) {
+    for settings in SETTINGS {
+        let walk = Walk::draw(settings);
+        let mut out = [0; STEP];
+        out[1..=RECORD].copy_from_slice(&walk.start);
+        for (conditions, given) in &walk.steps {
+            let record = *record_in(&out);
+            let conditions = &conditions[..walk.sections()];
+            let refusal = door.step(
+                &record,
+                given.received,
+                conditions,
+                given.command,
+                given.channel,
+                &mut out,
+            );
+            assert_eq!(refusal, 0);
+        }
+        assert_eq!(*record_in(&out), go(door, &walk));
+        assert_eq!(*record_in(&out), go_with_own_record(&walk));
+    }
+}

@@ -1,0 +1,134 @@
+//! The comparison of `peer compare`: the library and this reading are called with
+//! the same arguments, and lent memory of the same content; what they answer and
+//! what they leave in it is compared, byte for byte.
+
+mod books;
+mod captures;
+mod coder;
+mod crew;
+mod drawn_book;
+mod lent;
+mod report;
+mod spoilt;
+mod steps;
+mod tally;
+
+use crate::door::Door;
+use crew::Manner;
+use std::io::{self, IsTerminal};
+use tally::Tally;
+
+/// What is compared in parts, each of which comes out the same wherever and
+/// whenever it is done.
+struct Subject {
+    name: &'static str,
+    /// The calls that are due.
+    least: u64,
+    /// The refusals, 0 for none, that come up: all of these, and no others.
+    refusals: &'static [usize],
+    /// Names of what is counted besides; each comes up.
+    kinds: &'static [&'static str],
+    parts: usize,
+    compare: fn(&dyn Door, usize) -> Tally,
+}
+
+const SUBJECTS: [Subject; 9] = [
+    Subject {
+        name: "fresh",
+        least: 1 << 24,
+        refusals: &[0, 1, 2],
+        kinds: &[],
+        parts: coder::PARTS_BY_SIZE,
+        compare: coder::fresh,
+    },
+    Subject {
+        name: "decode",
+        least: 1 << 24,
+        refusals: &[0, 1],
+        kinds: &coder::MARKS,
+        parts: coder::PARTS_BY_SIZE,
+        compare: coder::decode,
+    },
+    Subject {
+        name: "encode",
+        least: 6 << 25,
+        refusals: &[0, 1, 10],
+        kinds: &[],
+        parts: coder::PARTS_BY_CODE,
+        compare: coder::encode,
+    },
+    Subject {
+        name: "encode, every n and flag",
+        least: 10_000_000,
+        refusals: &[0, 1, 10],
+        kinds: &[],
+        parts: coder::PARTS_BY_SIZE,
+        compare: coder::encode_by_size,
+    },
+    Subject {
+        name: "step, drawn",
+        least: 5_000_000,
+        refusals: &[0, 1, 2, 3, 4, 5, 6, 7],
+        kinds: &[],
+        parts: steps::PARTS,
+        compare: steps::drawn,
+    },
+    Subject {
+        name: "step, walks",
+        least: 5_000_000,
+        refusals: &[0],
+        kinds: &steps::SENT,
+        parts: steps::PARTS,
+        compare: steps::walks,
+    },
+    Subject {
+        name: "judge",
+        least: 200_000,
+        refusals: &[0, 1, 2, 8, 9],
+        kinds: &captures::KINDS,
+        parts: captures::PARTS,
+        compare: captures::compare,
+    },
+    Subject {
+        name: "read, and written again",
+        least: 100_000,
+        refusals: &[0, 20, 21, 22, 23, 24, 25, 26, 27, 28],
+        kinds: &books::READ_KINDS,
+        parts: books::PARTS,
+        compare: books::readings,
+    },
+    Subject {
+        name: "write, and read again",
+        least: 100_000,
+        refusals: &[0, 20, 23, 29, 30],
+        kinds: &books::WRITE_KINDS,
+        parts: books::PARTS,
+        compare: books::writings,
+    },
+];
+
+/// What the comparison found.
+pub struct Finding {
+    /// Neither a difference, nor a subject that does not come by what it is for.
+    pub clean: bool,
+    pub text: Vec<u8>,
+}
+
+pub fn compare(library: &dyn Door) -> io::Result<Finding> {
+    let mut progress = io::stderr();
+    let manner = if progress.is_terminal() {
+        Manner::Terminal
+    } else {
+        Manner::Lines
+    };
+    let tallies = crew::compare_all(library, &SUBJECTS, manner, &mut progress);
+    let mut text = Vec::new();
+    report::write(&mut text, &SUBJECTS, &tallies)?;
+    Ok(Finding {
+        clean: report::is_clean(&SUBJECTS, &tallies),
+        text,
+    })
+}
+
+#[cfg(test)]
+mod tests;

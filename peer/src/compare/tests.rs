@@ -1,0 +1,184 @@
+use super::*;
+use crate::door::{Peer, CONTENTS, DECODED, ENCODED, RECORD, SIZE, STEP, VERDICT};
+use std::io::Write;
+
+/// This reading in the place of the library, with one function that is wrong.
+struct Fake {
+    wrong: &'static str,
+}
+
+impl Fake {
+    /// Changes the last byte of an output where the fault is in that function.
+    fn spoil(&self, name: &str, out: &mut [u8]) {
+        if let (true, Some(last)) = (self.wrong == name, out.last_mut()) {
+            *last = last.wrapping_add(1);
+        }
+    }
+}
+
+impl Door for Fake {
+    fn fresh(&self, n: u8, mask: u16, wait: u16, record: &mut [u8; RECORD]) -> u8 {
+        let refusal = Peer.fresh(n, mask, wait, record);
+        self.spoil("fresh", record);
+        refusal
+    }
+
+    fn decode(&self, n: u8, k1: u8, k2: u8, out: &mut [u8; DECODED]) -> u8 {
+        let refusal = Peer.decode(n, k1, k2, out);
+        self.spoil("decode", out);
+        refusal
+    }
+
+    fn encode(
+        &self,
+        n: u8,
+        code: u8,
+        channel: u8,
+        bridged: u8,
+        remote: u8,
+        out: &mut [u8; ENCODED],
+    ) -> u8 {
+        let refusal = Peer.encode(n, code, channel, bridged, remote, out);
+        self.spoil("encode", out);
+        refusal
+    }
+
+    fn step(
+        &self,
+        record: &[u8; RECORD],
+        received: [u8; 2],
+        conditions: &[u8],
+        command: u8,
+        channel: u8,
+        out: &mut [u8; STEP],
+    ) -> u8 {
+        let refusal = Peer.step(record, received, conditions, command, channel, out);
+        self.spoil("step", out);
+        refusal
+    }
+
+    fn judge(&self, n: u8, mask: u16, wait: u16, capture: &[u8], out: &mut [u8; VERDICT]) -> u8 {
+        let refusal = Peer.judge(n, mask, wait, capture, out);
+        self.spoil("judge", out);
+        refusal
+    }
+
+    fn read(&self, book: &[u8], out: &mut [u8; CONTENTS]) -> u8 {
+        let refusal = Peer.read(book, out);
+        self.spoil("read", out);
+        refusal
+    }
+
+    fn write(
+        &self,
+        contents: &[u8; CONTENTS],
+        bodies: &[u8],
+        out: &mut [u8],
+        size: &mut [u8; SIZE],
+    ) -> u8 {
+        let refusal = Peer.write(contents, bodies, out, size);
+        // Behind the book, where there is more room: those bytes are to stay.
+        self.spoil("write", out);
+        refusal
+    }
+}
+
+/// One part of the subject that is named so first.
+fn part_of(subject: &str, library: &dyn Door) -> Tally {
+    let subject = SUBJECTS
+        .iter()
+        .find(|candidate| candidate.name.starts_with(subject))
+        .expect("a subject of that name");
+    // A part with a group that is not refused.
+    (subject.compare)(library, 2)
+}
+
+#[test]
+fn a_wrong_byte_of_each_function_is_noticed() {
+    for name in ["fresh", "decode", "encode", "judge", "read", "write"] {
+        let tally = part_of(name, &Fake { wrong: name });
+        assert!(tally.differences > 0 && !tally.told.is_empty(), "{name}");
+    }
+    for subject in ["step, drawn", "step, walks"] {
+        let tally = part_of(subject, &Fake { wrong: "step" });
+        assert!(tally.differences > 0 && !tally.told.is_empty(), "{subject}");
+    }
+}
+
+#[test]
+fn what_is_not_wrong_has_no_differences() {
+    for name in ["fresh", "decode", "step, walks", "read", "write"] {
+        let tally = part_of(name, &Fake { wrong: "" });
+        assert_eq!(tally.differences, 0, "{name}");
+    }
+}
+
+/// Two steps for each walk are not counted as two walks.
+#[test]
+fn a_walk_ends_with_its_first_difference() {
+    let tally = part_of("step, walks", &Fake { wrong: "step" });
+    assert_eq!(tally.calls, tally.differences);
+}
+
+const SMALL: [Subject; 2] = [
+    Subject {
+        name: "twos",
+        least: 0,
+        refusals: &[],
+        kinds: &[],
+        parts: 5,
+        compare: |_, part| Tally {
+            calls: 2,
+            told: vec![part.to_string()],
+            ..Tally::default()
+        },
+    },
+    Subject {
+        name: "differences",
+        least: 0,
+        refusals: &[],
+        kinds: &[],
+        parts: 3,
+        compare: |_, _| Tally {
+            calls: 1,
+            differences: 1,
+            ..Tally::default()
+        },
+    },
+];
+
+#[test]
+fn the_crew_does_every_part_once_and_joins_them_in_order() {
+    let mut progress = Vec::new();
+    let tallies = crew::compare_all(&Peer, &SMALL, Manner::Lines, &mut progress);
+    let [twos, differences] = &tallies[..] else {
+        panic!("as many tallies as subjects");
+    };
+    assert_eq!((twos.calls, differences.calls), (10, 3));
+    assert_eq!(twos.told, ["0", "1", "2", "3", "4"]);
+    assert_eq!(differences.differences, 3);
+    assert!(progress.ends_with(b"8 of 8 parts, 13 calls, 3 differences\n"));
+}
+
+#[test]
+fn a_terminal_is_told_on_one_line() {
+    let mut progress = Vec::new();
+    crew::compare_all(&Peer, &SMALL, Manner::Terminal, &mut progress);
+    assert!(progress.starts_with(b"\r") && progress.ends_with(b"differences\n"));
+    progress.flush().expect("memory takes every write");
+}
+
+#[test]
+fn as_many_calls_are_due_as_the_order_asks_for() {
+    let due = |name: &str| -> u64 {
+        let named = SUBJECTS
+            .iter()
+            .filter(|subject| subject.name.starts_with(name));
+        named.map(|subject| subject.least).sum()
+    };
+    assert!(due("step") >= 10_000_000);
+    assert_eq!(due("decode"), 256 * 256 * 256);
+    assert!(due("encode") >= 6 * 256 * 256 * 256 * 2);
+    assert!(due("judge") >= 200_000);
+    assert!(due("read") >= 100_000 && due("write") >= 100_000);
+}

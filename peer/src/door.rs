@@ -1,0 +1,57 @@
+//! The functions of `include/chainplater.h`, in numbers and bytes alone, so that
+//! the library and this reading can be called in the same way.
+
+mod peer;
+
+pub use peer::{record_bytes, record_of, verdict_bytes, Peer};
+
+pub const RECORD: usize = 10;
+pub const DECODED: usize = 5;
+pub const ENCODED: usize = 2;
+pub const STEP: usize = 17;
+pub const VERDICT: usize = 3;
+pub const CONTENTS: usize = 769;
+pub const SIZE: usize = 4;
+
+/// All of them answer the refusal, or 0, and fill what they are lent as the
+/// header says. Where it has K1 and K2 of a received pair, here is the pair.
+pub trait Door: Sync {
+    fn fresh(&self, n: u8, mask: u16, wait: u16, record: &mut [u8; RECORD]) -> u8;
+
+    fn decode(&self, n: u8, k1: u8, k2: u8, out: &mut [u8; DECODED]) -> u8;
+
+    fn encode(
+        &self,
+        n: u8,
+        code: u8,
+        channel: u8,
+        bridged: u8,
+        remote: u8,
+        out: &mut [u8; ENCODED],
+    ) -> u8;
+
+    fn step(
+        &self,
+        record: &[u8; RECORD],
+        received: [u8; 2],
+        conditions: &[u8],
+        command: u8,
+        channel: u8,
+        out: &mut [u8; STEP],
+    ) -> u8;
+
+    fn judge(&self, n: u8, mask: u16, wait: u16, capture: &[u8], out: &mut [u8; VERDICT]) -> u8;
+
+    fn read(&self, book: &[u8], out: &mut [u8; CONTENTS]) -> u8;
+
+    fn write(
+        &self,
+        contents: &[u8; CONTENTS],
+        bodies: &[u8],
+        out: &mut [u8],
+        size: &mut [u8; SIZE],
+    ) -> u8;
+}
+
+#[cfg(test)]
+mod tests;

@@ -1,0 +1,193 @@
+//! This reading behind the door. None of its functions is inlined, so that to
+//! call it costs a call, as it does to call the library.
+
+use super::{Door, CONTENTS, DECODED, ENCODED, RECORD, SIZE, STEP, VERDICT};
+use crate::book::{self, Contents, Entry, ENTRY_BYTES};
+use crate::controller::{self, Answer, Record};
+use crate::judge::{scan, Verdict};
+use crate::pair::{self, Received};
+
+pub struct Peer;
+
+impl Door for Peer {
+    #[inline(never)]
+    fn fresh(&self, n: u8, mask: u16, wait: u16, record: &mut [u8; RECORD]) -> u8 {
+        let (refusal, made) = match controller::fresh(n, mask, wait) {
+            Ok(made) => (0, record_bytes(&made)),
+            Err(refusal) => (refusal.number(), [0; RECORD]),
+        };
+        *record = made;
+        refusal
+    }
+
+    #[inline(never)]
+    fn decode(&self, n: u8, k1: u8, k2: u8, out: &mut [u8; DECODED]) -> u8 {
+        let (refusal, decoded) = match pair::decode(n, k1, k2) {
+            Ok(received) => (0, received_bytes(received)),
+            Err(refusal) => (refusal.number(), [0; DECODED]),
+        };
+        *out = decoded;
+        refusal
+    }
+
+    #[inline(never)]
+    fn encode(
+        &self,
+        n: u8,
+        code: u8,
+        channel: u8,
+        bridged: u8,
+        remote: u8,
+        out: &mut [u8; ENCODED],
+    ) -> u8 {
+        let record = pair::Record {
+            code,
+            channel,
+            bridged,
+            remote_defect: remote == 1,
+        };
+        let (refusal, pair) = match pair::encode(n, record) {
+            Ok(pair) if remote <= 1 => (0, pair),
+            // The size of the group has been looked at, and comes first.
+            Ok(_) => (pair::Refusal::Record.number(), [0; ENCODED]),
+            Err(refusal) => (refusal.number(), [0; ENCODED]),
+        };
+        *out = pair;
+        refusal
+    }
+
+    #[inline(never)]
+    fn step(
+        &self,
+        record: &[u8; RECORD],
+        [k1, k2]: [u8; 2],
+        conditions: &[u8],
+        command: u8,
+        channel: u8,
+        out: &mut [u8; STEP],
+    ) -> u8 {
+        let record = record_of(record);
+        let answer = controller::step(record, k1, k2, conditions, command, channel);
+        *out = answer_bytes(&answer);
+        answer.refusal
+    }
+
+    #[inline(never)]
+    fn judge(&self, n: u8, mask: u16, wait: u16, capture: &[u8], out: &mut [u8; VERDICT]) -> u8 {
+        let (refusal, verdict) = verdict_bytes(scan::judge(n, mask, wait, capture));
+        *out = verdict;
+        refusal
+    }
+
+    #[inline(never)]
+    fn read(&self, book: &[u8], out: &mut [u8; CONTENTS]) -> u8 {
+        match book::read(book) {
+            Ok(contents) => {
+                put_contents(&contents, out);
+                0
+            }
+            Err(refusal) => {
+                out.fill(0);
+                refusal.number()
+            }
+        }
+    }
+
+    #[inline(never)]
+    fn write(
+        &self,
+        contents: &[u8; CONTENTS],
+        bodies: &[u8],
+        out: &mut [u8],
+        size: &mut [u8; SIZE],
+    ) -> u8 {
+        let (refusal, length) = match book::write(&contents_of(contents), bodies, out) {
+            Ok(length) => (0, length),
+            Err(refusal) => (refusal.number(), 0),
+        };
+        *size = (length as u32).to_be_bytes();
+        refusal
+    }
+}
+
+pub fn record_bytes(record: &Record) -> [u8; RECORD] {
+    let [m1, m0] = record.mask.to_be_bytes();
+    let [w1, w0] = record.w.to_be_bytes();
+    let [k1, k2] = record.accepted;
+    let [l1, l0] = record.left.to_be_bytes();
+    [record.n, m1, m0, w1, w0, k1, k2, record.sent, l1, l0]
+}
+
+pub fn record_of(bytes: &[u8; RECORD]) -> Record {
+    let [n, m1, m0, w1, w0, k1, k2, sent, l1, l0] = *bytes;
+    Record {
+        n,
+        mask: u16::from_be_bytes([m1, m0]),
+        w: u16::from_be_bytes([w1, w0]),
+        accepted: [k1, k2],
+        sent,
+        left: u16::from_be_bytes([l1, l0]),
+    }
+}
+
+fn received_bytes(received: Received) -> [u8; DECODED] {
+    match received {
+        Received::Usable(record) => [
+            0,
+            record.code,
+            record.channel,
+            record.bridged,
+            u8::from(record.remote_defect),
+        ],
+        Received::Marked(mark) => [mark.number(), 0, 0, 0, 0],
+    }
+}
+
+fn answer_bytes(answer: &Answer) -> [u8; STEP] {
+    let mut bytes = [0; STEP];
+    bytes[0] = answer.refusal;
+    bytes[1..=RECORD].copy_from_slice(&record_bytes(&answer.record));
+    bytes[RECORD + 1..].copy_from_slice(&[
+        answer.k1,
+        answer.k2,
+        answer.bridge,
+        answer.selector,
+        answer.mark,
+        answer.fate,
+    ]);
+    bytes
+}
+
+/// The refusal, and what stands in the output. A capture has at most 16,384
+/// steps, so the number has room.
+pub fn verdict_bytes(verdict: Verdict) -> (u8, [u8; VERDICT]) {
+    let (refusal, kind, number) = match verdict {
+        Verdict::Explained(steps) => (0, 1, steps),
+        Verdict::Unexplained(step) => (0, 2, step),
+        Verdict::Refused(number) => (number, 0, 0),
+    };
+    let [high, low] = (number as u16).to_be_bytes();
+    (refusal, [kind, high, low])
+}
+
+fn put_contents(contents: &Contents, out: &mut [u8; CONTENTS]) {
+    let [count, rows @ ..] = out;
+    *count = contents.count;
+    let (rows, _) = rows.as_chunks_mut::<ENTRY_BYTES>();
+    for (row, place) in rows.iter_mut().zip(&contents.places) {
+        *row = place.to_bytes();
+    }
+}
+
+fn contents_of(bytes: &[u8; CONTENTS]) -> Contents {
+    let [count, rows @ ..] = bytes;
+    let mut contents = Contents {
+        count: *count,
+        ..Contents::ZEROS
+    };
+    let (rows, _) = rows.as_chunks::<ENTRY_BYTES>();
+    for (place, &row) in contents.places.iter_mut().zip(rows) {
+        *place = Entry::from_bytes(row);
+    }
+    contents
+}

@@ -1,0 +1,142 @@
+use super::*;
+use crate::trials::PAPER_BOOK;
+
+/// A fill that no answer has in every byte.
+const FILL: u8 = 0xEE;
+
+/// The paper's P1 to P3 and P10, by the bytes of the door.
+#[test]
+fn steps_of_the_paper_in_bytes() {
+    let mut fresh = [FILL; RECORD];
+    assert_eq!(Peer.fresh(2, 0, 3, &mut fresh), 0);
+    assert_eq!(fresh, [2, 0, 0, 0, 3, 0x00, 0x08, 0x00, 0, 0]);
+    let mut out = [FILL; STEP];
+    assert_eq!(
+        Peer.step(&fresh, [0x00, 0x08], &[0, 0, 1], 0, 0, &mut out),
+        0
+    );
+    let p2 = [
+        0, 2, 0, 0, 0, 3, 0x00, 0x08, 0xA2, 0, 0, 0xA2, 0x08, 0, 0, 0, 0,
+    ];
+    assert_eq!(out, p2);
+    let record = out[1..].first_chunk().copied().unwrap();
+    Peer.step(&record, [0x22, 0x28], &[0, 0, 1], 0, 0, &mut out);
+    let p3 = [
+        0, 2, 0, 0, 0, 3, 0x22, 0x28, 0xA2, 0, 0, 0xA2, 0x28, 2, 2, 0, 0,
+    ];
+    assert_eq!(out, p3);
+    Peer.step(&fresh, [0x00, 0x08], &[2, 0, 0], 3, 1, &mut out);
+    assert_eq!(out[11..], [0xD0, 0x08, 0, 0, 0, 2]);
+}
+
+#[test]
+fn a_refused_step_answers_zeros_and_the_record_it_was_given() {
+    let record: [u8; RECORD] = [15, 1, 2, 3, 4, 5, 6, 7, 8, 9];
+    let mut out = [FILL; STEP];
+    assert_eq!(Peer.step(&record, [0x00, 0x08], &[], 9, 9, &mut out), 1);
+    let expected = [&[1][..], &record, &[0; 6]].concat();
+    assert_eq!(out[..], expected);
+}
+
+#[test]
+fn records_are_big_endian_and_come_back() {
+    let bytes: [u8; RECORD] = [14, 0x2A, 0x55, 0x12, 0x34, 0xA2, 0x28, 0x63, 0x01, 0x02];
+    let record = record_of(&bytes);
+    assert_eq!(
+        (record.mask, record.w, record.left),
+        (0x2A55, 0x1234, 0x0102)
+    );
+    assert_eq!((record.accepted, record.sent), ([0xA2, 0x28], 0x63));
+    assert_eq!(record_bytes(&record), bytes);
+}
+
+#[test]
+fn a_refused_fresh_record_is_zeros() {
+    for (n, mask, refusal) in [(0, 0xFFFF, 1), (15, 0, 1), (2, 4, 2)] {
+        let mut record = [FILL; RECORD];
+        assert_eq!(Peer.fresh(n, mask, 3, &mut record), refusal);
+        assert_eq!(record, [0; RECORD]);
+    }
+}
+
+#[test]
+fn decoded_bytes_are_the_mark_or_the_record() {
+    for (n, pair, refusal, expected) in [
+        (2, [0xA2, 0x1E], 0, [0, 0b1010, 2, 1, 1]),
+        (2, [0x00, 0x28], 0, [0, 0, 0, 2, 0]),
+        (2, [0x11, 0x08], 0, [3, 0, 0, 0, 0]),
+        (2, [0xA3, 0x08], 0, [4, 0, 0, 0, 0]),
+        (0, [0x00, 0x08], 1, [0; 5]),
+    ] {
+        let mut out = [FILL; DECODED];
+        assert_eq!(Peer.decode(n, pair[0], pair[1], &mut out), refusal);
+        assert_eq!(out, expected, "{pair:02X?}");
+    }
+}
+
+#[test]
+fn a_remote_flag_above_one_is_refused_behind_the_size() {
+    for (n, remote, refusal, expected) in [
+        (2, 0, 0, [0xA2, 0x18]),
+        (2, 1, 0, [0xA2, 0x1E]),
+        (2, 2, 10, [0; 2]),
+        (2, 255, 10, [0; 2]),
+        (1, 1, 10, [0; 2]),
+        (15, 2, 1, [0; 2]),
+    ] {
+        let mut out = [FILL; ENCODED];
+        let answer = Peer.encode(n, 0b1010, 2, 1, remote, &mut out);
+        assert_eq!((answer, out), (refusal, expected), "{n} {remote}");
+    }
+}
+
+#[test]
+fn verdicts_are_a_kind_and_a_number() {
+    let explained = [0x00, 0x08, 0x00, 0x08].repeat(16_384);
+    let mut wrong = explained.clone();
+    wrong[4 * 300 + 3] = 0x18;
+    for (n, capture, refusal, expected) in [
+        (2, &explained[..], 0, [1, 0x40, 0]),
+        (2, &[], 0, [1, 0, 0]),
+        (2, &wrong, 0, [2, 1, 44]),
+        (2, &explained[..3], 8, [0; 3]),
+        (0, &explained, 1, [0; 3]),
+    ] {
+        let mut out = [FILL; VERDICT];
+        let answer = Peer.judge(n, 0, 3, capture, &mut out);
+        assert_eq!((answer, out), (refusal, expected));
+    }
+}
+
+#[test]
+fn contents_stand_behind_their_count_as_in_the_book() {
+    let mut contents = [FILL; CONTENTS];
+    assert_eq!(Peer.read(&PAPER_BOOK, &mut contents), 0);
+    assert_eq!(contents[..25], PAPER_BOOK[1..26]);
+    assert!(contents[25..].iter().all(|&byte| byte == 0));
+    assert_eq!(Peer.read(&PAPER_BOOK[..45], &mut contents), 27);
+    assert_eq!(contents, [0; CONTENTS]);
+}
+
+/// The spare and offset bytes, and the places past the count, are as they may be.
+#[test]
+fn a_book_is_written_from_its_contents() {
+    let mut contents = [FILL; CONTENTS];
+    contents[..25].copy_from_slice(&PAPER_BOOK[1..26]);
+    contents[2] = FILL;
+    contents[7..11].fill(FILL);
+    let mut out = [FILL; 50];
+    let mut size = [FILL; SIZE];
+    assert_eq!(
+        Peer.write(&contents, &PAPER_BOOK[26..], &mut out, &mut size),
+        0
+    );
+    assert_eq!(out[..46], PAPER_BOOK);
+    assert_eq!((&out[46..], size), (&[FILL; 4][..], [0, 0, 0, 46]));
+    let mut short = [FILL; 45];
+    assert_eq!(
+        Peer.write(&contents, &PAPER_BOOK[26..], &mut short, &mut size),
+        29
+    );
+    assert_eq!((short, size), ([FILL; 45], [0; SIZE]));
+}

@@ -1,0 +1,222 @@
+//! The judge once more (paper: "The judge"), made for speed: one scan over the
+//! rows, and the same few operations for each of them, whatever the size of the
+//! group.
+//!
+//! What a step can send hangs on the record before it. The K1 last sent and the
+//! steps of wait left are seen in the capture. The accepted pair is not, but it is
+//! one of two: the last usable pair received, or 00 08 if section 0 has failed
+//! since (paper: "Errors a good reader makes", the second). So two flags hold all
+//! that is left of the explanations.
+//!
+//! Conditions and commands are not tried. Any of them can come up in a step, and a
+//! clear drops the command held and the wait; so every request can be the local
+//! one, unless rule 2 or 3 shuts it out.
+
+use super::{admit, Row, Verdict};
+use crate::controller::Record;
+use crate::pair::Request;
+use std::hint::select_unpredictable as choose;
+
+/// The last four bits of a K2: bit 5, then the line bits of a good line or those
+/// of a remote defect. Only the first are sent (rule 6).
+const GOOD_LINE: u8 = 0b1000;
+const REMOTE_DEFECT: u8 = 0b1110;
+
+const FAIL_OF_PROTECTION: u16 = 0xD008;
+const LOCKOUT_OF_PROTECTION: u16 = 0xF008;
+
+const NO_CHANNEL: u16 = 0;
+const PROTECTION: u16 = 1;
+
+/// For each K1 what it is worth against another: greater is better. The rank
+/// decides, then the lower channel (rule 4). RR and NR, which never win, have 0.
+static WORTH: [u8; 256] = worths();
+
+const fn worths() -> [u8; 256] {
+    let mut worths = [0; 256];
+    let mut k1 = 0;
+    while k1 < worths.len() {
+        worths[k1] = worth(k1 as u8 >> 4, k1 as u8 & 0b1111);
+        k1 += 1;
+    }
+    worths
+}
+
+const fn worth(code: u8, channel: u8) -> u8 {
+    let rank = match (code, channel) {
+        (0b1111, _) => 10,
+        (0b1101, 0) => 9,
+        (0b1110, _) => 8,
+        (0b1101, _) => 7,
+        (0b1100, _) => 6,
+        (0b1011, _) => 5,
+        (0b1010, _) => 4,
+        (0b1000, _) => 3,
+        (0b0110, _) => 2,
+        _ => return 0,
+    };
+    rank << 4 | (0b1111 - channel)
+}
+
+pub fn judge(n: u8, mask: u16, wait: u16, capture: &[u8]) -> Verdict {
+    match admit(n, mask, wait, capture) {
+        Ok((start, rows)) => scan(start, rows),
+        Err(number) => Verdict::Refused(number),
+    }
+}
+
+fn scan(start: Record, rows: &[Row]) -> Verdict {
+    let mut line = Line::new(start);
+    match rows.iter().position(|&row| !line.explains(row)) {
+        Some(step) => Verdict::Unexplained(step),
+        None => Verdict::Explained(rows.len()),
+    }
+}
+
+/// Some K1: for each code a set of channels, where bit c is channel c.
+#[derive(Clone, Copy)]
+struct K1Set([u16; 16]);
+
+impl K1Set {
+    fn has(&self, k1: u8) -> bool {
+        self.0[usize::from(k1 >> 4)] >> (k1 & 0b1111) & 1 == 1
+    }
+
+    fn set(&mut self, request: Request, channels: u16) {
+        self.0[request as usize] = channels;
+    }
+
+    /// All that the paper's table has, for a group with these sections.
+    fn usable(sections: u16) -> Self {
+        let mut set = Self([NO_CHANNEL; 16]);
+        set.set(Request::Lockout, PROTECTION);
+        set.set(Request::ForcedSwitch, sections);
+        set.set(Request::SignalFailHigh, PROTECTION | sections);
+        set.set(Request::SignalFailLow, sections);
+        set.set(Request::SignalDegradeHigh, PROTECTION | sections);
+        set.set(Request::SignalDegradeLow, sections);
+        set.set(Request::ManualSwitch, sections);
+        set.set(Request::WaitToRestore, sections);
+        set.set(Request::Reverse, PROTECTION | sections);
+        set.set(Request::Nothing, PROTECTION);
+        set
+    }
+
+    /// What a fresh end can send while section 0 has not failed.
+    fn open(sections: u16, high: u16) -> Self {
+        let mut set = Self::usable(sections);
+        set.set(Request::SignalFailHigh, high);
+        set.set(Request::SignalFailLow, sections & !high);
+        set.set(Request::SignalDegradeHigh, PROTECTION | high);
+        set.set(Request::SignalDegradeLow, sections & !high);
+        set.set(Request::WaitToRestore, NO_CHANNEL);
+        set
+    }
+}
+
+/// What the rows so far leave open.
+struct Line {
+    n: u8,
+    sections: u16,
+    w: u16,
+    usable: K1Set,
+    /// What can be sent next while section 0 has not failed: RR, NR, and whatever
+    /// can be a local request.
+    open: K1Set,
+    /// The steps of wait left.
+    wait: u16,
+    /// The K1 of the last usable pair received. Its K2 shows in nothing that is
+    /// sent.
+    received: u8,
+    /// That pair may be the accepted one.
+    kept: bool,
+    /// 00 08 may be the accepted pair, because section 0 has failed.
+    lost: bool,
+}
+
+impl Line {
+    fn new(start: Record) -> Self {
+        let Record { n, mask, w, .. } = start;
+        let sections = ((1u32 << (n + 1)) - 2) as u16;
+        Self {
+            n,
+            sections,
+            w,
+            usable: K1Set::usable(sections),
+            open: K1Set::open(sections, mask << 1),
+            wait: 0,
+            received: 0x00,
+            kept: true,
+            lost: false,
+        }
+    }
+
+    /// Whether the rows still have an explanation with this one.
+    ///
+    /// No choice here is made by a branch, which would be taken in one row and not
+    /// in the next: hence `&` and `|`, which look at both sides, and `choose`.
+    #[inline(always)]
+    fn explains(&mut self, [k1, k2, sent, sent_k2]: Row) -> bool {
+        self.receive(k1, k2);
+        let open = self.open.has(sent);
+        let reverse = sent >> 4 == Request::Reverse.code();
+        let kept = self.is_sent(sent, sent_k2, reverse);
+        // With 00 08 accepted there is nothing to answer and nothing to bridge.
+        let lost = !reverse & (sent_k2 == GOOD_LINE);
+        self.kept &= open & kept;
+        self.lost &= open & lost;
+        self.lost |= can_be_failed(sent, sent_k2);
+        self.go_on(sent);
+        self.kept | self.lost
+    }
+
+    /// Rule 1, for a section 0 that has not failed.
+    fn receive(&mut self, k1: u8, k2: u8) {
+        let line = k2 & 0b1111;
+        let usable = ((line == GOOD_LINE) | (line == REMOTE_DEFECT))
+            & (k2 >> 4 <= self.n)
+            & self.usable.has(k1);
+        self.received = choose(usable, k1, self.received);
+        self.kept |= usable;
+        self.lost &= !usable;
+    }
+
+    /// Rules 4 and 6, with the received pair accepted.
+    fn is_sent(&self, sent: u8, sent_k2: u8, reverse: bool) -> bool {
+        let channel = self.received & 0b1111;
+        let same = channel == sent & 0b1111;
+        let bridge = choose(same | (sent == 0), channel, 0);
+        let better = WORTH[usize::from(self.received)] > WORTH[usize::from(sent)];
+        (better == reverse) & (!reverse | same) & (sent_k2 == bridge << 4 | GOOD_LINE)
+    }
+
+    /// What the next step can send: rules 2, 3 and 5.
+    fn go_on(&mut self, sent: u8) {
+        let (code, channel) = (sent >> 4, 1 << (sent & 0b1111));
+        let is = |request: Request| code == request.code();
+        // The codes of fails and degrades lie together. That section 0 has no wait
+        // follows from `sections`, which it is not in.
+        let fault = (0b1010..=0b1101).contains(&code);
+        let waited = choose(is(Request::WaitToRestore), self.wait.wrapping_sub(1), 0);
+        self.wait = choose(fault, self.w, waited);
+        let waits = choose(self.wait > 0, channel & self.sections, NO_CHANNEL);
+        let forced = choose(is(Request::ForcedSwitch), channel, self.sections);
+        let forced = choose(is(Request::Lockout), NO_CHANNEL, forced);
+        let manual = choose(is(Request::ManualSwitch), channel, self.sections);
+        let manual = choose(code >= Request::ForcedSwitch.code(), NO_CHANNEL, manual);
+        self.open.set(Request::WaitToRestore, waits);
+        self.open.set(Request::ForcedSwitch, forced);
+        self.open.set(Request::ManualSwitch, manual);
+    }
+}
+
+/// While section 0 has failed, nothing but LO outranks that, and nothing is
+/// accepted that could (rules 1, 3 and 4). LO can be given or held in every step,
+/// and be dropped by a clear.
+fn can_be_failed(sent: u8, sent_k2: u8) -> bool {
+    let pair = u16::from_be_bytes([sent, sent_k2]);
+    (pair == FAIL_OF_PROTECTION) | (pair == LOCKOUT_OF_PROTECTION)
+}
+
+#[cfg(test)]
+mod tests;

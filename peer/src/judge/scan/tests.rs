@@ -1,0 +1,199 @@
+use super::*;
+use crate::books::capture::Settings;
+use crate::books::runs::{self, COMMON, LOCKED};
+use crate::books::{changes, pairs};
+use crate::draws::Draws;
+use crate::judge::{causes, explain, reached_by, Cause};
+use crate::pair;
+
+/// Both judges, on a capture that neither refuses.
+fn assert_agree(settings: Settings, rows: &[Row], causes: &[Cause]) -> Verdict {
+    let start = settings.fresh();
+    let verdict = explain(start, rows, causes);
+    assert_eq!(scan(start, rows), verdict, "{settings:?} {rows:02X?}");
+    verdict
+}
+
+#[test]
+fn the_tables_are_those_of_the_pair() {
+    for k1 in 0..=u8::MAX {
+        let (code, channel) = (k1 >> 4, k1 & 0b1111);
+        let expected = match pair::rank(code, channel) {
+            0 => 0,
+            rank => rank << 4 | (15 - channel),
+        };
+        // Those that stand in no row are never looked up for what they are worth.
+        if pair::read_k1(14, k1).is_ok() {
+            assert_eq!(WORTH[usize::from(k1)], expected, "{k1:02X}");
+        }
+        for n in 1..=14 {
+            let sections = ((1u32 << (n + 1)) - 2) as u16;
+            let usable = K1Set::usable(sections).has(k1);
+            assert_eq!(usable, pair::read_k1(n, k1).is_ok(), "{n} {k1:02X}");
+        }
+    }
+}
+
+#[test]
+fn the_judge_lines_of_the_paper() {
+    let judged = |rows: &[Row]| judge(2, 0, 3, rows.as_flattened());
+    let lockout = [0x81, 0x08, 0xF0, 0x08];
+    assert_eq!(judged(&[]), Verdict::Explained(0));
+    assert_eq!(
+        judged(&[[0x00, 0x08, 0xE1, 0x08], [0x21, 0x18, 0x82, 0x08]]),
+        Verdict::Unexplained(1)
+    );
+    for sent in [[0x00, 0x08], [0x21, 0x18]] {
+        let shown = [0x11, 0x08, sent[0], sent[1]];
+        assert_eq!(judged(&[lockout, shown]), Verdict::Explained(2));
+    }
+}
+
+#[test]
+fn refusals_are_those_of_the_other_judge() {
+    for (n, mask, length) in [
+        (0, 0xFFFF, 65_537),
+        (15, 0, 4),
+        (255, 0, 0),
+        (2, 4, 65_537),
+        (14, 0x4000, 4),
+        (2, 3, 65_537),
+        (2, 3, 65_540),
+        (2, 3, 65_536),
+        (2, 3, 3),
+        (2, 3, 0),
+    ] {
+        let capture = vec![0; length];
+        let expected = crate::judge::judge(n, mask, 3, &capture);
+        assert_eq!(judge(n, mask, 3, &capture), expected, "{n} {mask} {length}");
+    }
+}
+
+/// What is received in the steps of the captures that are tried in full.
+const RECEIVED: [[u8; 2]; 8] = [
+    [0x00, 0x08],
+    [0x11, 0x08],
+    [0x21, 0x18],
+    [0x81, 0x0E],
+    [0xB0, 0x08],
+    [0xC1, 0x08],
+    [0xD0, 0x18],
+    [0xF0, 0x08],
+];
+
+/// Each K1 of the channels 0 to 2, with the K2 that may go with it and one that
+/// never does.
+fn all_sent() -> impl Iterator<Item = [u8; 2]> {
+    (0..=u8::MAX)
+        .filter(|k1| k1 & 0b1111 <= 2)
+        .flat_map(|k1| [0x08, 0x18, 0x28, 0x0E].map(|k2| [k1, k2]))
+}
+
+/// Every row that may come next, behind rows that are explained.
+fn longer(settings: Settings, front: &[Row], causes: &[Cause]) -> Vec<Vec<Row>> {
+    let mut reached = vec![settings.fresh()];
+    for &row in front {
+        reached = reached_by(&reached, row, causes);
+    }
+    let mut explained = Vec::new();
+    for row in all_rows() {
+        let rows = [front, &[row]].concat();
+        let goes_on = !reached_by(&reached, row, causes).is_empty();
+        let agrees = scan(settings.fresh(), &rows) == told(&rows, goes_on);
+        assert!(agrees, "{settings:?} {rows:02X?} {goes_on}");
+        explained.extend(goes_on.then_some(rows));
+    }
+    explained
+}
+
+fn all_rows() -> impl Iterator<Item = Row> {
+    all_sent().flat_map(|[sent, sent_k2]| RECEIVED.map(|[k1, k2]| [k1, k2, sent, sent_k2]))
+}
+
+fn told(rows: &[Row], explained: bool) -> Verdict {
+    if explained {
+        Verdict::Explained(rows.len())
+    } else {
+        Verdict::Unexplained(rows.len() - 1)
+    }
+}
+
+/// Every capture of two steps that can be made of those rows, in a group of one
+/// section.
+#[test]
+fn the_judges_agree_on_all_captures_of_two_steps() {
+    let causes = causes(1);
+    for (mask, w) in [(0, 1), (1, 0)] {
+        let settings = Settings { n: 1, mask, w };
+        let firsts = longer(settings, &[], &causes);
+        let seconds: usize = firsts
+            .iter()
+            .map(|front| longer(settings, front, &causes).len())
+            .sum();
+        assert!(firsts.len() >= 40 && seconds > 1_000, "{seconds}");
+    }
+}
+
+/// Behind LO, where both pairs may be accepted, and behind a wait.
+#[test]
+fn the_judges_agree_behind_longer_fronts() {
+    let settings = Settings {
+        n: 2,
+        mask: 2,
+        w: 2,
+    };
+    let causes = causes(2);
+    let fronts: [&[Row]; 4] = [
+        &[[0x81, 0x08, 0xF0, 0x08], [0x11, 0x08, 0xF0, 0x08]],
+        &[[0xC1, 0x08, 0xF0, 0x08], [0x11, 0x08, 0xD0, 0x08]],
+        &[[0x00, 0x08, 0xC1, 0x08], [0x21, 0x18, 0x61, 0x18]],
+        &[[0x00, 0x08, 0x81, 0x08], [0x21, 0x18, 0xE1, 0x18]],
+    ];
+    for front in fronts {
+        assert!(longer(settings, front, &causes).len() > 20, "{front:02X?}");
+    }
+}
+
+/// Runs and damaged runs in groups of every size.
+#[test]
+fn the_judges_agree_on_drawn_captures() {
+    let mut draws = Draws::from_seed(41);
+    let mut verdicts = [0; 2];
+    for n in 1..=14u8 {
+        let causes = causes(n);
+        for round in 0..24 {
+            let mask = draws.below(1 << n);
+            let settings = Settings {
+                n,
+                mask,
+                w: draws.below(4),
+            };
+            let habit = if round % 2 == 0 { COMMON } else { LOCKED };
+            let mut capture = runs::draw(&mut draws, habit, settings, 12);
+            if round % 3 > 0 {
+                changes::replace(&mut draws, &mut capture);
+            }
+            let verdict = assert_agree(settings, &capture.rows, &causes);
+            verdicts[usize::from(matches!(verdict, Verdict::Unexplained(_)))] += 1;
+        }
+    }
+    assert!(verdicts.iter().all(|&count| count >= 50), "{verdicts:?}");
+}
+
+/// Rows of pairs that have little to do with each other.
+#[test]
+fn the_judges_agree_on_rows_of_any_pairs() {
+    let mut draws = Draws::from_seed(42);
+    for n in [1, 2, 3, 14] {
+        let causes = causes(n);
+        let settings = Settings { n, mask: 1, w: 1 };
+        for _ in 0..200 {
+            let rows = [(); 3].map(|()| {
+                let [k1, k2] = pairs::draw_sendable(&mut draws, n);
+                let [sent, sent_k2] = pairs::draw_sendable(&mut draws, n);
+                [k1, k2, sent, sent_k2]
+            });
+            assert_agree(settings, &rows, &causes);
+        }
+    }
+}

@@ -1,0 +1,161 @@
+//! The proved library, as `include/chainplater.h` declares it. All that is unsafe
+//! in this package is here.
+//!
+//! What the header asks of a caller follows from the types of the wrappers. Every
+//! pointer comes from a reference, so none is null, not even of an empty slice; it
+//! points to as many bytes as its parameter says, because arrays have that length
+//! and slices go with theirs. What is written to is lent by `&mut`, so it overlaps
+//! nothing else. The library keeps nothing after a call and has no state.
+
+#![allow(unsafe_code)]
+
+use crate::door::{Door, CONTENTS, DECODED, ENCODED, RECORD, SIZE, STEP, VERDICT};
+
+/// As in the header, with its `size_t` as `usize`.
+mod declared {
+    unsafe extern "C" {
+        pub fn chainplater_fresh(n: u8, mask: u16, wait: u16, record: *mut u8) -> u8;
+
+        pub fn chainplater_decode(n: u8, k1: u8, k2: u8, out: *mut u8) -> u8;
+
+        pub fn chainplater_encode(
+            n: u8,
+            code: u8,
+            channel: u8,
+            bridged: u8,
+            remote: u8,
+            out: *mut u8,
+        ) -> u8;
+
+        pub fn chainplater_step(
+            record: *const u8,
+            k1: u8,
+            k2: u8,
+            conditions: *const u8,
+            count: usize,
+            command: u8,
+            channel: u8,
+            out: *mut u8,
+        ) -> u8;
+
+        pub fn chainplater_judge(
+            n: u8,
+            mask: u16,
+            wait: u16,
+            capture: *const u8,
+            length: usize,
+            out: *mut u8,
+        ) -> u8;
+
+        pub fn chainplater_read(book: *const u8, length: usize, out: *mut u8) -> u8;
+
+        pub fn chainplater_write(
+            contents: *const u8,
+            bodies: *const u8,
+            length: usize,
+            out: *mut u8,
+            room: usize,
+            size: *mut u8,
+        ) -> u8;
+    }
+}
+
+pub struct Library;
+
+/// The library, since this package was built with it.
+pub fn linked() -> Option<Library> {
+    Some(Library)
+}
+
+impl Door for Library {
+    #[inline]
+    fn fresh(&self, n: u8, mask: u16, wait: u16, record: &mut [u8; RECORD]) -> u8 {
+        // SAFETY: `record` has the 10 bytes that are written.
+        unsafe { declared::chainplater_fresh(n, mask, wait, record.as_mut_ptr()) }
+    }
+
+    #[inline]
+    fn decode(&self, n: u8, k1: u8, k2: u8, out: &mut [u8; DECODED]) -> u8 {
+        // SAFETY: `out` has the 5 bytes that are written.
+        unsafe { declared::chainplater_decode(n, k1, k2, out.as_mut_ptr()) }
+    }
+
+    #[inline]
+    fn encode(
+        &self,
+        n: u8,
+        code: u8,
+        channel: u8,
+        bridged: u8,
+        remote: u8,
+        out: &mut [u8; ENCODED],
+    ) -> u8 {
+        let out = out.as_mut_ptr();
+        // SAFETY: `out` has the 2 bytes that are written.
+        unsafe { declared::chainplater_encode(n, code, channel, bridged, remote, out) }
+    }
+
+    #[inline]
+    fn step(
+        &self,
+        record: &[u8; RECORD],
+        [k1, k2]: [u8; 2],
+        conditions: &[u8],
+        command: u8,
+        channel: u8,
+        out: &mut [u8; STEP],
+    ) -> u8 {
+        // SAFETY: `record` has the 10 bytes and `conditions` the `count` bytes that
+        // are read, `out` the 17 that are written; it overlaps neither.
+        unsafe {
+            declared::chainplater_step(
+                record.as_ptr(),
+                k1,
+                k2,
+                conditions.as_ptr(),
+                conditions.len(),
+                command,
+                channel,
+                out.as_mut_ptr(),
+            )
+        }
+    }
+
+    #[inline]
+    fn judge(&self, n: u8, mask: u16, wait: u16, capture: &[u8], out: &mut [u8; VERDICT]) -> u8 {
+        let (start, length) = (capture.as_ptr(), capture.len());
+        // SAFETY: `capture` has the `length` bytes that are read, `out` the 3 that
+        // are written; they do not overlap.
+        unsafe { declared::chainplater_judge(n, mask, wait, start, length, out.as_mut_ptr()) }
+    }
+
+    #[inline]
+    fn read(&self, book: &[u8], out: &mut [u8; CONTENTS]) -> u8 {
+        // SAFETY: `book` has the `length` bytes that are read, `out` the 769 that
+        // are written; they do not overlap.
+        unsafe { declared::chainplater_read(book.as_ptr(), book.len(), out.as_mut_ptr()) }
+    }
+
+    #[inline]
+    fn write(
+        &self,
+        contents: &[u8; CONTENTS],
+        bodies: &[u8],
+        out: &mut [u8],
+        size: &mut [u8; SIZE],
+    ) -> u8 {
+        // SAFETY: `contents` has the 769 bytes and `bodies` the `length` bytes that
+        // are read, `out` the `room` bytes and `size` the 4 that may be written;
+        // neither of these overlaps any other.
+        unsafe {
+            declared::chainplater_write(
+                contents.as_ptr(),
+                bodies.as_ptr(),
+                bodies.len(),
+                out.as_mut_ptr(),
+                out.len(),
+                size.as_mut_ptr(),
+            )
+        }
+    }
+}

@@ -1,0 +1,40 @@
+//! In place of the library, where this package was built without it. There is no
+//! value of this type, so nothing here is ever called.
+
+use crate::door::{Door, CONTENTS, DECODED, ENCODED, RECORD, SIZE, STEP, VERDICT};
+
+pub enum Library {}
+
+pub fn linked() -> Option<Library> {
+    None
+}
+
+impl Door for Library {
+    fn fresh(&self, _: u8, _: u16, _: u16, _: &mut [u8; RECORD]) -> u8 {
+        match *self {}
+    }
+
+    fn decode(&self, _: u8, _: u8, _: u8, _: &mut [u8; DECODED]) -> u8 {
+        match *self {}
+    }
+
+    fn encode(&self, _: u8, _: u8, _: u8, _: u8, _: u8, _: &mut [u8; ENCODED]) -> u8 {
+        match *self {}
+    }
+
+    fn step(&self, _: &[u8; RECORD], _: [u8; 2], _: &[u8], _: u8, _: u8, _: &mut [u8; STEP]) -> u8 {
+        match *self {}
+    }
+
+    fn judge(&self, _: u8, _: u16, _: u16, _: &[u8], _: &mut [u8; VERDICT]) -> u8 {
+        match *self {}
+    }
+
+    fn read(&self, _: &[u8], _: &mut [u8; CONTENTS]) -> u8 {
+        match *self {}
+    }
+
+    fn write(&self, _: &[u8; CONTENTS], _: &[u8], _: &mut [u8], _: &mut [u8; SIZE]) -> u8 {
+        match *self {}
+    }
+}
