@@ -12,6 +12,10 @@
 //! steps. The paper is silent there. What is answered was settled for both
 //! programs, and their agreement on it is no evidence.
 //!
+//! Nor was the closed form of `judge::scan`, which requests can be sent in a step:
+//! it was handed over. What speaks for it is that it agrees with the judge by brute
+//! force, which was written from the paper alone.
+//!
 //! The programs are compared by what they print: `sequences` for the byte pair and
 //! the controller, `trials` for the capture book. For the judge there is a program
 //! of its own on the other side, so `books` runs it on many books and compares what
