@@ -1,14 +1,17 @@
 -- Laws of layouts: what is written by a layout is read back by it, and what is read by it, written, gives the same bytes.
 use mathlib.Core.Path.{_≡_, refl, sym, ap, _∙_}
+use mathlib.Core.Bool.{true}
 use mathlib.Core.List.{List, [], _∷_, _++_, append-assoc}
-use Prim.Native.Nat.{ℕ, suc, _+_, _*_, _≤_, _<_, _/_, _%_}
+use Prim.Native.Nat.{ℕ, suc, _+_, _*_, _≤_, _<_, _/_, _%_, _^_}
 use native.Mathlib.Nat.{add-zero, add-assoc, suc-inj}
 use native.Mathlib.Numerals.{add-one}
 use native.Mathlib.Omega.{arith}
 use lib.ListN.{length, getD, take, drop, length-append}
 use lib.Seq.{getD-append-add, drop-cons, drop-drop, take-add}
+use borrow.Author.Tests.{lt-ltb}
 use Rattle.basics.specs.Bytes.{twoAt, fourAt, twoBytes, fourBytes}
-use Rattle.basics.specs.Fields.{Width, one, two, four, bytesIn, numberAt, bytesOf, sizeOf, fieldsAt, fieldBytes}
+use Rattle.basics.specs.Fields.{Width, one, two, four, bytesIn, numberAt, bytesOf, sizeOf, fieldsFit, fieldsAt}
+use Rattle.basics.specs.Fields.{fieldBytes}
 
 two-shift : (before bytes : List ℕ) (n : ℕ) → twoAt (before ++ bytes) (length before + n) ≡ twoAt bytes n
 unfolding twoAt
@@ -82,6 +85,18 @@ module _ (bytes : List ℕ) (small : (i : ℕ) → getD bytes i 0 < 256) where
   two-small : (at : ℕ) → twoAt bytes at < 65536
   unfolding twoAt
   two-small at = omega (arith, small at, small (at + 1))
+
+  number-small : (width : Width) (at : ℕ) → numberAt width bytes at < 256 ^ bytesIn width
+  unfolding fourAt
+  number-small one at = small at
+  number-small two at = two-small at
+  number-small four at = omega (arith, two-small at, two-small (at + 2))
+
+  -- numbers that were read fit into their fields
+  pub fields-fit : (layout : List Width) (at : ℕ) → fieldsFit layout (fieldsAt layout bytes at) ≡ true
+  fields-fit [] at = refl
+  fields-fit (width ∷ layout) at =
+      rw (lt-ltb (numberAt width bytes at) (256 ^ bytesIn width) (number-small width at)) (fields-fit layout (at + bytesIn width))
 
   number-again : (width : Width) (at : ℕ) → at + bytesIn width ≤ length bytes
       → bytesOf width (numberAt width bytes at) ≡ take (bytesIn width) (drop at bytes)

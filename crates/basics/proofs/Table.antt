@@ -2,7 +2,7 @@
 -- values of a function has them at each entry.
 use mathlib.Core.Path.{_≡_, sym, ap, _∙_}
 use mathlib.Core.Bool.{Bool, true, _&&_, and-eq-true-iff}
-use mathlib.Core.List.{List, [], _∷_}
+use mathlib.Core.List.{List, [], _∷_, _++_}
 use Prim.Native.Nat.{ℕ, zero, suc, _+_, _<_}
 use native.Mathlib.Nat.{add-zero, zero-add, add-suc, suc-add, le-of-suc-le-suc, not-suc-le-zero}
 use lib.ListN.{length, getD}
@@ -18,6 +18,13 @@ module _ {A : Type 0} where
   at-entry test (x ∷ xs) other whole zero h = and-eq-true-iff (test x) (every test xs) .0 whole .0
   at-entry test (x ∷ xs) other whole (suc k) h =
       at-entry test xs other (and-eq-true-iff (test x) (every test xs) .0 whole .1) k (le-of-suc-le-suc h)
+
+  pub every-joined : (test : A → Bool) (list list′ : List A) → every test list ≡ true → every test list′ ≡ true
+      → every test (list ++ list′) ≡ true
+  every-joined test [] list′ whole whole′ = whole′
+  every-joined test (x ∷ xs) list′ whole whole′ =
+      let both = and-eq-true-iff (test x) (every test xs) .0 whole in
+      rw (both .0) (every-joined test xs list′ (both .1) whole′)
 
 -- the values of f at i, i + 1, .., as many as n
 abbrev pub valuesFrom : ℕ → (ℕ → ℕ) → ℕ → List ℕ

@@ -18,12 +18,34 @@ use Rattle.basics.proofs.Fields.{fields-back, fields-again}
 use Rattle.basics.proofs.One.{OneAnswer, OneContent, one-value, one-case}
 use Rattle.basics.proofs.two_at.Kinds as two-at-kinds
 use Rattle.basics.proofs.two_at.Reads as two-at
+use Rattle.basics.proofs.two_at.Statement as two-at-statement
+use Rattle.basics.proofs.two_at.Met as two-at-met
 use Rattle.basics.proofs.four_at.Kinds as four-at-kinds
 use Rattle.basics.proofs.four_at.Reads as four-at
+use Rattle.basics.proofs.four_at.Statement as four-at-statement
+use Rattle.basics.proofs.four_at.Met as four-at-met
 use Rattle.basics.proofs.put_two.Kinds as put-two-kinds
 use Rattle.basics.proofs.put_two.Reads as put-two
+use Rattle.basics.proofs.put_two.Statement as put-two-statement
+use Rattle.basics.proofs.put_two.Met as put-two-met
 use Rattle.basics.proofs.put_four.Kinds as put-four-kinds
 use Rattle.basics.proofs.put_four.Reads as put-four
+use Rattle.basics.proofs.put_four.Statement as put-four-statement
+use Rattle.basics.proofs.put_four.Met as put-four-met
+
+-- Each public function answers, and leaves in the memory that it was lent, what its definition says, for every input.
+-- (`statement` is the contract, as the checker reads it off the source; it asks nothing of the caller.)
+two-at-right : {M : Type 1} → two-at-statement.statement M
+two-at-right = two-at-met.met
+
+four-at-right : {M : Type 1} → four-at-statement.statement M
+four-at-right = four-at-met.met
+
+put-two-right : {M : Type 1} → put-two-statement.statement M
+put-two-right = put-two-met.met
+
+put-four-right : {M : Type 1} → put-four-statement.statement M
+put-four-right = put-four-met.met
 
 -- A number that was written where it has room is read back.
 two-right : (bytes : List ℕ) (at v : ℕ) → at + 1 < length bytes → twoAt (sets bytes at (twoBytes v)) at ≡ v

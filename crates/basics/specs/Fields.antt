@@ -1,7 +1,9 @@
 -- Fields that stand one behind the other, each a big-endian number of one, two or four bytes. A list of widths is such a
 -- layout whole: by it numbers are read, and by it they are written.
+use mathlib.Core.Bool.{Bool, true, _&&_}
 use mathlib.Core.List.{List, [], _∷_, _++_}
-use Prim.Native.Nat.{ℕ, _+_}
+use Prim.Native.Nat.{ℕ, _+_, _^_}
+use lib.Dec.{ltb}
 use lib.ListN.{getD}
 use Rattle.basics.specs.Bytes.{twoAt, fourAt, twoBytes, fourBytes}
 
@@ -29,6 +31,12 @@ bytesOf four v = fourBytes v
 abbrev pub sizeOf : List Width → ℕ
 sizeOf [] = 0
 sizeOf (width ∷ layout) = bytesIn width + sizeOf layout
+
+-- each number fits into the bytes of its field
+abbrev pub fieldsFit : List Width → List ℕ → Bool
+fieldsFit [] values = true
+fieldsFit (width ∷ layout) [] = true
+fieldsFit (width ∷ layout) (v ∷ values) = ltb v (256 ^ bytesIn width) && fieldsFit layout values
 
 abbrev pub fieldsAt : List Width → List ℕ → ℕ → List ℕ
 fieldsAt [] bytes at = []

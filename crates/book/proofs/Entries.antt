@@ -14,7 +14,7 @@ use Rattle.basics.specs.First.{firstOf}
 use Rattle.basics.proofs.First.{first-behind, first-before, none-both}
 use Rattle.book.specs.Format.{entryIn, firstBody, bodyEnd, noEntry, places, countIn, entriesIn, entriesOf}
 use Rattle.book.specs.Reader.{headFaults, entryFaults, bodyFaults, refusal}
-use Rattle.book.specs.Reader.{refused, reading}
+use Rattle.book.specs.Reader.{refusedReading, reading}
 use Rattle.book.specs.declared.Entry.{Entry}
 use Rattle.book.specs.declared.Reading.{Reading}
 use Rattle.book.proofs.Refusals.{Headed, headed, sound}
@@ -176,7 +176,7 @@ pub accepted : (book : List ℕ) → refusal book ≡ 0
 unfolding reading
 accepted book z = rw z
 
-pub not-accepted : (book : List ℕ) → (refusal book ≡ 0 → ⊥) → reading book ≡ refused (refusal book)
+pub not-accepted : (book : List ℕ) → (refusal book ≡ 0 → ⊥) → reading book ≡ refusedReading (refusal book)
 unfolding reading
 not-accepted book some = rw (ne-eqb (refusal book) 0 some)
 

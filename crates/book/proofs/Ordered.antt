@@ -14,7 +14,7 @@ use Rattle.basics.proofs.First.{numbered, none-exact, none-both, first-applies}
 use Rattle.basics.proofs.Table.{every}
 use Rattle.book.specs.Format.{countIn, entriesOf, firstBody, bodyEnd, InOrder, most, IsBook, bodyOf}
 use Rattle.book.specs.Format.{joined, placedAt, placed}
-use Rattle.book.specs.Reader.{headFaults, entryFaults, bodyFaults, faults, refusal}
+use Rattle.book.specs.Reader.{headFaults, entryFaults, bodyFaults, readFaults, refusal}
 use Rattle.book.specs.Writer.{stepsOf}
 use Rattle.book.specs.declared.Entry.{Entry}
 use Rattle.book.proofs.Refusals.{headed, sound}
@@ -121,18 +121,18 @@ bodies-numbered size at (e ∷ rest) = bodies-numbered size (bodyEnd at e) rest
 
 -- the first check that applies gives the refusal, or the bytes are a book
 pub refused-or-book : (book : List ℕ)
-    → ((i : ℕ) × FirstAt (faults book) i × (refusal book ≡ numberOf (faults book) i)) ⊎ IsBook book
+    → ((i : ℕ) × FirstAt (readFaults book) i × (refusal book ≡ numberOf (readFaults book) i)) ⊎ IsBook book
 unfolding refusal
 refused-or-book book = go (refusal book) refl
   where
     go : (n : ℕ) → refusal book ≡ n
-        → ((i : ℕ) × FirstAt (faults book) i × (refusal book ≡ numberOf (faults book) i)) ⊎ IsBook book
+        → ((i : ℕ) × FirstAt (readFaults book) i × (refusal book ≡ numberOf (readFaults book) i)) ⊎ IsBook book
     go zero e = inr (book-exact book .0 e)
-    go (suc n) e = inl (first-applies (faults book) (λ z. omega arith))
+    go (suc n) e = inl (first-applies (readFaults book) (λ z. omega arith))
 
-pub refused-no-book : (book : List ℕ) (i : ℕ) → FirstAt (faults book) i → IsBook book → ⊥
+pub refused-no-book : (book : List ℕ) (i : ℕ) → FirstAt (readFaults book) i → IsBook book → ⊥
 unfolding refusal
 refused-no-book book i first b =
     let named = bodies-numbered (length book) (firstBody (countIn book)) (entriesOf book) in
-    let none = none-exact (faults book) named .0 (book-exact book .1 b) i in
+    let none = none-exact (readFaults book) named .0 (book-exact book .1 b) i in
     true≢false (sym (first .applies) ∙ none)

@@ -14,8 +14,8 @@ use Rattle.basics.proofs.First.{first-applies}
 use Rattle.basics.proofs.One.{OneAnswer, OneContent, OnePart, one-value, one-case}
 use Rattle.basics.proofs.Table.{every}
 use Rattle.book.specs.Format.{countIn, layout, entriesOf, contentsIn, bytesOf, firstBody, IsBook, bodyOf, joined}
-use Rattle.book.specs.Format.{places, placed, bookOf}
-use Rattle.book.specs.Reader.{faults, refusal, reading}
+use Rattle.book.specs.Format.{entryFits, places, placed, bookOf}
+use Rattle.book.specs.Reader.{readFaults, refusal, reading}
 use Rattle.book.specs.Writer.{counted, stepsOf, size, writeFaults, writeRefusal, writing, output}
 use Rattle.book.specs.declared.Contents.{Contents}
 use Rattle.book.proofs.Books.{refused-writing}
@@ -44,8 +44,8 @@ use Rattle.book.proofs.write.Reads as write-fn
 use Rattle.book.proofs.write.Statement as write-statement
 use Rattle.book.proofs.write.Met as write-met
 
--- Reading, the body of a capture, writing, and contents in bytes by themselves answer what their definitions say, for every input. (`statement` is the
--- contract, as the checker reads it off the source; it asks nothing of the caller.)
+-- Reading, the body of a capture, writing, and contents in bytes by themselves answer what their definitions say, for every
+-- input. (`statement` is the contract, as the checker reads it off the source; it asks nothing of the caller.)
 read-right : {M : Type 1} → read-statement.statement M
 read-right = read-met.met
 
@@ -85,10 +85,10 @@ put-contents-unique κs args x y s t p q = one-value p q
 -- Exactly one of two: some check applies, and the first of them in the paper's order gives the refusal; or the bytes are
 -- a book: each body starts where the one before it ends, the first at 2 + 12k, and the last ends with the book.
 one-of-two : (book : List ℕ)
-    → ((i : ℕ) × FirstAt (faults book) i × (refusal book ≡ numberOf (faults book) i)) ⊎ IsBook book
+    → ((i : ℕ) × FirstAt (readFaults book) i × (refusal book ≡ numberOf (readFaults book) i)) ⊎ IsBook book
 one-of-two = refused-or-book
 
-not-both : (book : List ℕ) (i : ℕ) → FirstAt (faults book) i → IsBook book → ⊥
+not-both : (book : List ℕ) (i : ℕ) → FirstAt (readFaults book) i → IsBook book → ⊥
 not-both = refused-no-book
 
 refusal-exact : (book : List ℕ) → (refusal book ≡ 0) ↔ IsBook book
@@ -109,11 +109,14 @@ write-refused : (contents : Contents) (bodies out : List ℕ)
     × (output contents bodies out ≡ out)
 write-refused = refused-writing
 
--- The books are just those that the writer writes.
+-- The books are just those that the writer writes, of contents that a program can hand it: 64 places, each with fields that
+-- fit into their bytes.
 format-exact : (book : List ℕ) → ((i : ℕ) → getD book i 0 < 256)
     → IsBook book
     ↔ ((contents : Contents)
     × (bodies : List ℕ)
+    × (length (contents .entries) ≡ 64)
+    × (every entryFits (contents .entries) ≡ true)
     × (writeRefusal contents (length bodies) (length book) ≡ 0)
     × (bookOf (counted contents) bodies ≡ book))
 format-exact = book-format

@@ -9,16 +9,16 @@ use lib.Dec.{eqb}
 use lib.ListN.{length, getD, take, drop, replicate, length-append, length-drop, length-replicate, take-append-drop}
 use lib.Seq.{drop-at, drop-cons, drop-drop, take-at, take-add, take-all, getD-drop}
 use borrow.Author.Tests.{eqb-true}
-use Rattle.basics.proofs.Fields.{fields-back, fields-again}
-use Rattle.basics.proofs.Table.{every}
-use Rattle.book.specs.Format.{countIn, layout, fields, named, entryIn, entryBytes, entriesIn, entriesOf}
+use Rattle.basics.proofs.Fields.{fields-back, fields-again, fields-fit}
+use Rattle.basics.proofs.Table.{every, every-joined}
+use Rattle.book.specs.Format.{countIn, layout, fields, named, entryFits, entryIn, entryBytes, entriesIn, entriesOf}
 use Rattle.book.specs.Format.{contentsBytes, contentsIn, bytesOf, firstBody, InOrder, most, IsBook, bodyOf, joined, noEntry, places, placed, bookOf}
 use Rattle.book.specs.Reader.{refusal, reading}
 use Rattle.book.specs.Writer.{firstPlaces, counted, stepsOf, size, writeRefusal, writing, output}
 use Rattle.book.specs.declared.Entry.{Entry}
 use Rattle.book.specs.declared.Contents.{Contents}
 use Rattle.book.proofs.Refusals.{writable, not-refused}
-use Rattle.book.proofs.Entries.{length-entries, accepted}
+use Rattle.book.proofs.Entries.{length-entries, accepted, counting}
 use Rattle.book.proofs.Counted.{length-counted}
 use Rattle.book.proofs.Filling.{length-entry}
 use Rattle.book.proofs.Books.{length-placed, length-contents, length-book}
@@ -61,6 +61,17 @@ entries-again (suc k) bytes small h =
       whole,
     )
     (sym (take-add 12 (12 * k) bytes))
+
+-- the fields of entries that were read fit into their bytes, and so do zeros
+entries-fit : (k : ℕ) (bytes : List ℕ) → ((i : ℕ) → getD bytes i 0 < 256) → every entryFits (entriesIn k bytes) ≡ true
+unfolding entriesIn entryIn
+entries-fit zero bytes small = refl
+entries-fit (suc k) bytes small =
+    rw (fields-fit bytes small layout 0) (entries-fit k (drop 12 bytes) (λ i. rw (getD-drop 12 bytes i 0) (small (12 + i))))
+
+zeros-fit : (m : ℕ) → every entryFits (replicate m noEntry) ≡ true
+zeros-fit zero = refl
+zeros-fit (suc m) = zeros-fit m
 
 -- contents in bytes by themselves, written and read back, and read and written again
 pub contents-back : (contents : Contents) → length (contents .entries) ≡ 64 → contentsIn (bytesOf contents) ≡ contents
@@ -195,6 +206,10 @@ read-places book = go (eqb (refusal book) 0) refl
         rw h (length-places (entriesOf book) (omega (arith, count-entries book e, is-book book e .few)))
     go false h = rw h (length-places [] (omega arith))
 
+-- and no more than these count
+pub read-few : (book : List ℕ) → reading book .contents .count ≤ 64
+read-few book = counting book (reading book .contents .count) refl .few
+
 pub read-again : (book out : List ℕ) → ((i : ℕ) → getD book i 0 < 256) → reading book .refusal ≡ 0
     → length book ≤ length out →
     let contents = reading book .contents in
@@ -309,13 +324,17 @@ pub book-format : (book : List ℕ) → ((i : ℕ) → getD book i 0 < 256)
     → IsBook book
     ↔ ((contents : Contents)
     × (bodies : List ℕ)
+    × (length (contents .entries) ≡ 64)
+    × (every entryFits (contents .entries) ≡ true)
     × (writeRefusal contents (length bodies) (length book) ≡ 0)
     × (bookOf (counted contents) bodies ≡ book))
-book-format book small = (forward, λ w. subst IsBook (w .3) (written-is (w .0) (w .1) book (w .2)))
+book-format book small = (forward, λ w. subst IsBook (w .5) (written-is (w .0) (w .1) book (w .4)))
   where
     forward : IsBook book
         → (contents : Contents)
         × (bodies : List ℕ)
+        × (length (contents .entries) ≡ 64)
+        × (every entryFits (contents .entries) ≡ true)
         × (writeRefusal contents (length bodies) (length book) ≡ 0)
         × (bookOf (counted contents) bodies ≡ book)
     forward b =
@@ -323,6 +342,10 @@ book-format book small = (forward, λ w. subst IsBook (w .3) (written-is (w .0) 
         let bodies = joined book (entriesOf book) in (
           readContents book,
           bodies,
+          length-places (entriesOf book) (omega (arith, count-entries book e, b .few)),
+          every-joined entryFits (entriesOf book) (replicate (64 - length (entriesOf book)) noEntry)
+              (entries-fit (countIn book) (drop 2 book) (λ i. rw (getD-drop 2 book i 0) (small (2 + i))))
+              (zeros-fit (64 - length (entriesOf book))),
           again-none book e small book (omega arith),
           ap (λ (es : List Entry). bookOf es bodies) (read-counted book e) ∙ book-again book e small,
         )

@@ -1,9 +1,10 @@
 -- The capture book (01, 'Capture book'), for the reader and for the writer.
 use mathlib.Core.Path.{_≡_}
+use mathlib.Core.Bool.{Bool}
 use mathlib.Core.List.{List, [], _∷_, _++_}
 use Prim.Native.Nat.{ℕ, zero, suc, _+_, _*_, _-_, _≤_}
 use lib.ListN.{length, getD, take, drop, replicate}
-use Rattle.basics.specs.Fields.{Width, one, two, four, fieldsAt, fieldBytes}
+use Rattle.basics.specs.Fields.{Width, one, two, four, fieldsFit, fieldsAt, fieldBytes}
 use Rattle.book.specs.declared.Entry.{Entry}
 use Rattle.book.specs.declared.Contents.{Contents}
 
@@ -28,6 +29,10 @@ named values =
       offset = getD values 4 0;
       steps = getD values 5 0;
     }
+
+-- each field fits into its bytes
+abbrev pub entryFits : Entry → Bool
+entryFits e = fieldsFit layout (fields e)
 
 -- the entry that bytes start with, and the bytes of an entry
 unfoldable pub entryIn : List ℕ → Entry

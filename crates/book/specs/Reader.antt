@@ -29,17 +29,17 @@ bodyFaults size at [] = (28 when ltb at size) ∷ []
 bodyFaults size at (e ∷ rest) = entryFaults size at e ++ bodyFaults size (bodyEnd at e) rest
 
 -- in the paper's order
-abbrev pub faults : List ℕ → List Check
-faults book = headFaults book ++ bodyFaults (length book) (firstBody (countIn book)) (entriesOf book)
+abbrev pub readFaults : List ℕ → List Check
+readFaults book = headFaults book ++ bodyFaults (length book) (firstBody (countIn book)) (entriesOf book)
 
 unfoldable pub refusal : List ℕ → ℕ
-refusal book = firstOf (faults book)
+refusal book = firstOf (readFaults book)
 
-abbrev pub refused : ℕ → Reading
-refused number = record { refusal = number; contents = record { count = 0; entries = places [] } }
+abbrev pub refusedReading : ℕ → Reading
+refusedReading number = record { refusal = number; contents = record { count = 0; entries = places [] } }
 
 unfoldable pub reading : List ℕ → Reading
 reading book =
     if eqb (refusal book) 0
     then record { refusal = 0; contents = record { count = countIn book; entries = places (entriesOf book) } }
-    else refused (refusal book)
+    else refusedReading (refusal book)

@@ -13,7 +13,7 @@ use Rattle.basics.proofs.One.{answers}
 use Rattle.basics.proofs.First.{CountedFrom, none-exact}
 use Rattle.basics.specs.First.{_when_, firstOf}
 use Rattle.pair.specs.Request.{requests, listed, carries}
-use Rattle.pair.specs.Marks.{codeOf, channelOf, bridgedOf, bit5, lineBits, faults, mark}
+use Rattle.pair.specs.Marks.{codeOf, channelOf, bridgedOf, bit5, lineBits, pairFaults, mark}
 use Rattle.pair.specs.Coder.{sectionsFit, decodingTold, decodingCase, decoding}
 use Rattle.pair.specs.Coder.{lineOf, encodingTold, encodingCase, encodable, encoding}
 use Rattle.pair.specs.declared.Pair.{Pair}
@@ -112,13 +112,13 @@ line-given l h = go (eqb l 0b000) (eqb l 0b110) refl refl
     go true false ea eb = rw eb (sym (eqb-true l 0b000 ea))
     go false false ea eb = absurd (false≢true (sym (rw (ea, eb) at h)))
 
-pub faults-counted : (n k1 k2 : ℕ) → CountedFrom 1 (faults n k1 k2)
+pub faults-counted : (n k1 k2 : ℕ) → CountedFrom 1 (pairFaults n k1 k2)
 faults-counted n k1 k2 = (refl, (refl, (refl, (refl, (refl, tt)))))
 
 pub unmarked : (n k1 k2 : ℕ) → sectionsFit n ≡ true → mark n k1 k2 ≡ 0 → UsablePair n k1 k2
 unfolding mark
 unmarked n k1 k2 fits h =
-    let none = none-exact (faults n k1 k2) refl .0 h in
+    let none = none-exact (pairFaults n k1 k2) refl .0 h in
     let bit : bit5 k2 ≡ 0 → ⊥ = eqb-false (bit5 k2) 0 (none 0) in
     let below : bridgedOf k2 ≤ n = ltb-false n (bridgedOf k2) (none 4) in
     record {

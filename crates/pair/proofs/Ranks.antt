@@ -10,7 +10,7 @@ use borrow.Author.Tests.{eqb-true, leb-true}
 use Rattle.basics.proofs.Table.{every, at-entry}
 use Rattle.pair.specs.Request.{Channels, zero-only, sections, zero-and-sections, Row, row, requests}
 use Rattle.pair.specs.Request.{among, stands, carries}
-use Rattle.pair.specs.Request.{Class, channel-0, a-section, classOf, holds, rankIn, rankOf}
+use Rattle.pair.specs.Request.{Class, channel-0, a-section, classOf, includes, rankIn, rankOf}
 use Rattle.pair.specs.Marks.{codeOf, channelOf}
 use Rattle.pair.specs.Coder.{decodingCase, decoding}
 use Rattle.pair.specs.declared.Pair.{Pair}
@@ -21,10 +21,10 @@ use Rattle.pair.proofs.Coding.{usable-facts}
 abbrev pub rowAt : ℕ → Row
 rowAt i = getD requests i (row 0b0000 zero-only 0)
 
-among-class : (channels : Channels) (n c : ℕ) → among channels n c ≡ true → holds channels (classOf c) ≡ true
+among-class : (channels : Channels) (n c : ℕ) → among channels n c ≡ true → includes channels (classOf c) ≡ true
 among-class channels n c h = go (eqb c 0) refl channels h
   where
-    go : (t : Bool) → eqb c 0 ≡ t → (ch : Channels) → among ch n c ≡ true → holds ch (classOf c) ≡ true
+    go : (t : Bool) → eqb c 0 ≡ t → (ch : Channels) → among ch n c ≡ true → includes ch (classOf c) ≡ true
     go true e zero-only m = rw e
     go true e sections m =
         let z : c ≡ 0 = eqb-true c 0 e in
@@ -35,9 +35,9 @@ among-class channels n c h = go (eqb c 0) refl channels h
     go false e sections m = rw e
     go false e zero-and-sections m = rw e
 
--- the table gives a row's code the row's rank, for a class that the row holds
+-- the table gives a row's code the row's rank, for a class that the row includes
 abbrev ranked : Class → Row → Bool
-ranked class r = not (holds (r .channels) class) || eqb (rankIn requests class (r .code)) (r .rank)
+ranked class r = not (includes (r .channels) class) || eqb (rankIn requests class (r .code)) (r .rank)
 
 all-ranked : (class : Class) → every (ranked class) requests ≡ true
 unfolding rankIn
@@ -56,7 +56,7 @@ row-rank n code c i h stood =
     let test = at-entry (ranked (classOf c)) requests (row 0b0000 zero-only 0) (all-ranked (classOf c)) i h in
     rw (eqb-true code (r .code) (parts .0))
     (eqb-true (rankIn requests (classOf c) (r .code)) (r .rank)
-    (implied (holds (r .channels) (classOf c)) (eqb (rankIn requests (classOf c) (r .code)) (r .rank)) test
+    (implied (includes (r .channels) (classOf c)) (eqb (rankIn requests (classOf c) (r .code)) (r .rank)) test
     (among-class (r .channels) n c (parts .1))))
 
 carried-row : (rows : List Row) (n code c : ℕ) (other : Row) → carries rows n code c ≡ true

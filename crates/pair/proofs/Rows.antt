@@ -8,19 +8,19 @@ use lib.Dec.{leb, ltb, eqb, leb·zero}
 use borrow.Author.Tests.{ltb-true, ltb-false, leb-true, eqb-true, eqb-false, ne-eqb, le-leb}
 use Rattle.basics.proofs.Table.{every}
 use Rattle.pair.specs.Request.{Channels, zero-only, sections, zero-and-sections, Row, among, listed, carries}
-use Rattle.pair.specs.Request.{Class, channel-0, a-section, holds, rankIn}
+use Rattle.pair.specs.Request.{Class, channel-0, a-section, includes, rankIn}
 
--- some row has the code and holds the class
+-- some row has the code and includes the class
 unfoldable pub heldIn : List Row → Class → ℕ → Bool
 heldIn [] class code = false
-heldIn (r ∷ rest) class code = eqb code (r .code) && holds (r .channels) class || heldIn rest class code
+heldIn (r ∷ rest) class code = eqb code (r .code) && includes (r .channels) class || heldIn rest class code
 
-among-0 : (channels : Channels) (n : ℕ) → among channels n 0 ≡ holds channels channel-0
+among-0 : (channels : Channels) (n : ℕ) → among channels n 0 ≡ includes channels channel-0
 among-0 zero-only n = refl
 among-0 sections n = refl
 among-0 zero-and-sections n = leb·zero n
 
-among-section : (channels : Channels) (n c : ℕ) → (c ≡ 0 → ⊥) → among channels n c ≡ holds channels a-section && leb c n
+among-section : (channels : Channels) (n c : ℕ) → (c ≡ 0 → ⊥) → among channels n c ≡ includes channels a-section && leb c n
 among-section zero-only n c h = ne-eqb c 0 h
 among-section sections n c h = rw (le-leb 1 c (omega arith))
 among-section zero-and-sections n c h = refl
@@ -29,7 +29,7 @@ pub carries-0 : (rows : List Row) (n code : ℕ) → carries rows n code 0 ≡ h
 unfolding carries heldIn
 carries-0 [] n code = refl
 carries-0 (r ∷ rest) n code =
-    rw among-0 (ap (λ (o : Bool). eqb code (r .code) && holds (r .channels) channel-0 || o) (carries-0 rest n code))
+    rw among-0 (ap (λ (o : Bool). eqb code (r .code) && includes (r .channels) channel-0 || o) (carries-0 rest n code))
 
 regroup : (e h o l : Bool) → e && (h && l) || o && l ≡ (e && h || o) && l
 regroup true true true true = refl
@@ -45,9 +45,9 @@ unfolding carries heldIn
 carries-section [] n code c h = refl
 carries-section (r ∷ rest) n code c h =
     rw (among-section (r .channels) n c h)
-    (ap (λ (o : Bool). eqb code (r .code) && (holds (r .channels) a-section && leb c n) || o)
+    (ap (λ (o : Bool). eqb code (r .code) && (includes (r .channels) a-section && leb c n) || o)
     (carries-section rest n code c h)
-    ∙ regroup (eqb code (r .code)) (holds (r .channels) a-section) (heldIn rest a-section code) (leb c n))
+    ∙ regroup (eqb code (r .code)) (includes (r .channels) a-section) (heldIn rest a-section code) (leb c n))
 
 or-four : (e z s a b : Bool) → z || s ≡ true → e || (a || b) ≡ (e && z || a) || (e && s || b)
 or-four true true s a b h = refl
@@ -56,7 +56,7 @@ or-four true false true false b h = refl
 or-four true false false a b h = absurd (false≢true h)
 or-four false z s a b h = refl
 
-some-class : (channels : Channels) → holds channels channel-0 || holds channels a-section ≡ true
+some-class : (channels : Channels) → includes channels channel-0 || includes channels a-section ≡ true
 some-class zero-only = refl
 some-class sections = refl
 some-class zero-and-sections = refl
@@ -66,7 +66,7 @@ unfolding listed heldIn
 held-listed [] code = refl
 held-listed (r ∷ rest) code =
     ap (λ (o : Bool). eqb code (r .code) || o) (held-listed rest code)
-    ∙ or-four (eqb code (r .code)) (holds (r .channels) channel-0) (holds (r .channels) a-section)
+    ∙ or-four (eqb code (r .code)) (includes (r .channels) channel-0) (includes (r .channels) a-section)
     (heldIn rest channel-0 code) (heldIn rest a-section code) (some-class (r .channels))
 
 pub and-true : (b : Bool) → b && true ≡ b

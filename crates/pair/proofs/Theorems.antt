@@ -7,8 +7,8 @@ use lib.ListN.{length}
 use Rattle.basics.specs.First.{appliesAt, FirstAt}
 use Rattle.basics.proofs.First.{first-exact, none-exact}
 use Rattle.basics.proofs.One.{OneAnswer, one-value, one-case}
-use Rattle.pair.specs.Request.{requests, stands, rankOf}
-use Rattle.pair.specs.Marks.{faults, mark}
+use Rattle.pair.specs.Request.{forcedCode, failHighCode, requests, stands, rankOf}
+use Rattle.pair.specs.Marks.{pairFaults, mark}
 use Rattle.pair.specs.Coder.{sectionsFit, decodingCase, decoding, encodingCase, encodable, encoding}
 use Rattle.pair.specs.declared.Pair.{Pair}
 use Rattle.pair.specs.declared.Decoded.the-variants as decoded
@@ -17,18 +17,55 @@ use Rattle.pair.proofs.Coding.{faults-counted, pair-back, record-back, 
 use Rattle.pair.proofs.Ranks.{rowAt, row-rank, usable-row, fail-outranks}
 use Rattle.pair.proofs.sections_fit.Kinds as sections-fit-kinds
 use Rattle.pair.proofs.sections_fit.Reads as sections-fit
+use Rattle.pair.proofs.sections_fit.Statement as sections-fit-statement
+use Rattle.pair.proofs.sections_fit.Met as sections-fit-met
 use Rattle.pair.proofs.decode.Kinds as decode-kinds
 use Rattle.pair.proofs.decode.Reads as decode
+use Rattle.pair.proofs.decode.Statement as decode-statement
+use Rattle.pair.proofs.decode.Met as decode-met
 use Rattle.pair.proofs.encode.Kinds as encode-kinds
 use Rattle.pair.proofs.encode.Reads as encode
+use Rattle.pair.proofs.encode.Statement as encode-statement
+use Rattle.pair.proofs.encode.Met as encode-met
 use Rattle.pair.proofs.request.rank.Kinds as rank-kinds
 use Rattle.pair.proofs.request.rank.Reads as rank
+use Rattle.pair.proofs.request.rank.Statement as rank-statement
+use Rattle.pair.proofs.request.rank.Met as rank-met
 use Rattle.pair.proofs.request.packed_rank.Kinds as packed-rank-kinds
 use Rattle.pair.proofs.request.packed_rank.Reads as packed-rank
+use Rattle.pair.proofs.request.packed_rank.Statement as packed-rank-statement
+use Rattle.pair.proofs.request.packed_rank.Met as packed-rank-met
 use Rattle.pair.proofs.request.carries.Kinds as carries-kinds
 use Rattle.pair.proofs.request.carries.Reads as carries
+use Rattle.pair.proofs.request.carries.Statement as carries-statement
+use Rattle.pair.proofs.request.carries.Met as carries-met
 use Rattle.pair.proofs.mark.usable.Kinds as usable-kinds
 use Rattle.pair.proofs.mark.usable.Reads as usable
+use Rattle.pair.proofs.mark.usable.Statement as usable-statement
+use Rattle.pair.proofs.mark.usable.Met as usable-met
+
+-- Each public function answers what its definition says, for every input. (`statement` is the contract, as the checker
+-- reads it off the source; it asks nothing of the caller. The last three are open to the crates above alone.)
+sections-fit-right : {M : Type 1} → sections-fit-statement.statement M
+sections-fit-right = sections-fit-met.met
+
+decode-right : {M : Type 1} → decode-statement.statement M
+decode-right = decode-met.met
+
+encode-right : {M : Type 1} → encode-statement.statement M
+encode-right = encode-met.met
+
+rank-right : {M : Type 1} → rank-statement.statement M
+rank-right = rank-met.met
+
+packed-rank-right : {M : Type 1} → packed-rank-statement.statement M
+packed-rank-right = packed-rank-met.met
+
+carries-right : {M : Type 1} → carries-statement.statement M
+carries-right = carries-met.met
+
+usable-right : {M : Type 1} → usable-statement.statement M
+usable-right = usable-met.met
 
 -- Decoding a usable pair and encoding the record gives the pair back.
 pair-right : (n k1 k2 : ℕ) (p : Pair) → decodingCase (decoding n k1 k2) ≡ decoded.Usable p
@@ -48,24 +85,24 @@ encodable-right = encodable-exact
 
 -- The marks come in the paper's order: a pair has mark i + 1 exactly if the fault at place i is its first, so that a
 -- pair with several faults has one mark, and a pair is usable exactly if it has no fault.
-marks-right : (n k1 k2 i : ℕ) → (mark n k1 k2 ≡ i + 1) ↔ FirstAt (faults n k1 k2) i
+marks-right : (n k1 k2 i : ℕ) → (mark n k1 k2 ≡ i + 1) ↔ FirstAt (pairFaults n k1 k2) i
 unfolding mark
-marks-right n k1 k2 = first-exact (faults n k1 k2) (faults-counted n k1 k2)
+marks-right n k1 k2 = first-exact (pairFaults n k1 k2) (faults-counted n k1 k2)
 
-marks-complete : (n k1 k2 : ℕ) → (mark n k1 k2 ≡ 0) ↔ ((i : ℕ) → appliesAt (faults n k1 k2) i ≡ false)
+marks-complete : (n k1 k2 : ℕ) → (mark n k1 k2 ≡ 0) ↔ ((i : ℕ) → appliesAt (pairFaults n k1 k2) i ≡ false)
 unfolding mark
-marks-complete n k1 k2 = none-exact (faults n k1 k2) refl
+marks-complete n k1 k2 = none-exact (pairFaults n k1 k2) refl
 
 -- The request of a usable pair stands in a row of the table, and has the rank of each row that it stands in.
 row-complete : (n k1 k2 : ℕ) (p : Pair) → decodingCase (decoding n k1 k2) ≡ decoded.Usable p
     → (i : ℕ) × (i < length requests) × (stands (rowAt i) n (p .code) (p .channel) ≡ true)
 row-complete = usable-row
 
-rank-right : (n code c i : ℕ) → i < length requests → stands (rowAt i) n code c ≡ true → rankOf code c ≡ rowAt i .rank
-rank-right = row-rank
+row-right : (n code c i : ℕ) → i < length requests → stands (rowAt i) n code c ≡ true → rankOf code c ≡ rowAt i .rank
+row-right = row-rank
 
 -- SF0 outranks FS, whatever its channel.
-fail-right : (c : ℕ) → rankOf 0b1110 c < rankOf 0b1101 0
+fail-right : (c : ℕ) → rankOf forcedCode c < rankOf failHighCode 0
 fail-right = fail-outranks
 
 -- Two answers that the promise of a public function allows are equal. (`Post` is the function's `ensures`, as the checker

@@ -23,8 +23,8 @@ bit5 k2 = k2 / 8 % 2
 abbrev pub lineBits : ℕ → ℕ
 lineBits k2 = k2 % 8
 
-abbrev pub faults : ℕ → ℕ → ℕ → List Check
-faults n k1 k2 =
+abbrev pub pairFaults : ℕ → ℕ → ℕ → List Check
+pairFaults n k1 k2 =
     -- bit 5 is 0
     (1 when eqb (bit5 k2) 0)
     -- line bits neither 000 nor 110
@@ -39,4 +39,4 @@ faults n k1 k2 =
 
 -- 0 is a usable pair
 unfoldable pub mark : ℕ → ℕ → ℕ → ℕ
-mark n k1 k2 = firstOf (faults n k1 k2)
+mark n k1 k2 = firstOf (pairFaults n k1 k2)

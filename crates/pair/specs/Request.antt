@@ -5,6 +5,37 @@ use Prim.Native.Nat.{ℕ}
 use lib.Dec.{leb, eqb}
 use Rattle.basics.specs.Choice.{if_then_else_}
 
+-- the request codes, the upper four bits of K1
+abbrev pub lockoutCode : ℕ
+lockoutCode = 0b1111
+
+abbrev pub forcedCode : ℕ
+forcedCode = 0b1110
+
+abbrev pub failHighCode : ℕ
+failHighCode = 0b1101
+
+abbrev pub failLowCode : ℕ
+failLowCode = 0b1100
+
+abbrev pub degradeHighCode : ℕ
+degradeHighCode = 0b1011
+
+abbrev pub degradeLowCode : ℕ
+degradeLowCode = 0b1010
+
+abbrev pub manualCode : ℕ
+manualCode = 0b1000
+
+abbrev pub waitCode : ℕ
+waitCode = 0b0110
+
+abbrev pub reverseCode : ℕ
+reverseCode = 0b0010
+
+abbrev pub nothingCode : ℕ
+nothingCode = 0b0000
+
 -- the channels that a request may carry: 0; 1..n; 0..n
 pub data Channels : Type 0 where
   zero-only sections zero-and-sections : Channels
@@ -20,27 +51,27 @@ row code channels rank = record { code = code; channels = channels; rank = rank 
 abbrev pub requests : List Row
 requests =
     -- lockout of protection, LO
-    row 0b1111 zero-only 10
+    row lockoutCode zero-only 10
     -- signal fail on protection, SF0
-    ∷ row 0b1101 zero-only 9
+    ∷ row failHighCode zero-only 9
     -- forced switch, FS
-    ∷ row 0b1110 sections 8
+    ∷ row forcedCode sections 8
     -- signal fail, high
-    ∷ row 0b1101 sections 7
+    ∷ row failHighCode sections 7
     -- signal fail, low
-    ∷ row 0b1100 sections 6
+    ∷ row failLowCode sections 6
     -- signal degrade, high
-    ∷ row 0b1011 zero-and-sections 5
+    ∷ row degradeHighCode zero-and-sections 5
     -- signal degrade, low
-    ∷ row 0b1010 sections 4
+    ∷ row degradeLowCode sections 4
     -- manual switch, MS
-    ∷ row 0b1000 sections 3
+    ∷ row manualCode sections 3
     -- wait to restore, WTR
-    ∷ row 0b0110 sections 2
+    ∷ row waitCode sections 2
     -- reverse request, RR
-    ∷ row 0b0010 zero-and-sections 0
+    ∷ row reverseCode zero-and-sections 0
     -- no request, NR
-    ∷ row 0b0000 zero-only 0
+    ∷ row nothingCode zero-only 0
     ∷ []
 
 -- the channel c is among the channels, in a group of n sections
@@ -70,19 +101,19 @@ pub data Class : Type 0 where
 abbrev pub classOf : ℕ → Class
 classOf c = if eqb c 0 then channel-0 else a-section
 
-abbrev pub holds : Channels → Class → Bool
-holds zero-only channel-0 = true
-holds zero-only a-section = false
-holds sections channel-0 = false
-holds sections a-section = true
-holds zero-and-sections channel-0 = true
-holds zero-and-sections a-section = true
+abbrev pub includes : Channels → Class → Bool
+includes zero-only channel-0 = true
+includes zero-only a-section = false
+includes sections channel-0 = false
+includes sections a-section = true
+includes zero-and-sections channel-0 = true
+includes zero-and-sections a-section = true
 
--- the rank of the row that has the code and holds the class; 0 where there is none
+-- the rank of the row that has the code and includes the class; 0 where there is none
 unfoldable pub rankIn : List Row → Class → ℕ → ℕ
 rankIn [] class code = 0
 rankIn (r ∷ rest) class code =
-    if eqb code (r .code) && holds (r .channels) class then r .rank else rankIn rest class code
+    if eqb code (r .code) && includes (r .channels) class then r .rank else rankIn rest class code
 
 unfoldable pub rankOf : ℕ → ℕ → ℕ
 rankOf code c = rankIn requests (classOf c) code

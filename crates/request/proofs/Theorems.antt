@@ -12,16 +12,48 @@ use Rattle.request.proofs.Order.{better-irreflexive, better-transitive,
 use Rattle.request.proofs.Order.{best-one, best-above, best-single, rank-irreflexive, rank-transitive}
 use Rattle.request.proofs.better.Kinds as better-kinds
 use Rattle.request.proofs.better.Reads as better-fn
+use Rattle.request.proofs.better.Statement as better-statement
+use Rattle.request.proofs.better.Met as better-met
 use Rattle.request.proofs.replaces.Kinds as replaces-kinds
 use Rattle.request.proofs.replaces.Reads as replaces
+use Rattle.request.proofs.replaces.Statement as replaces-statement
+use Rattle.request.proofs.replaces.Met as replaces-met
 use Rattle.request.proofs.fate.Kinds as fate-kinds
 use Rattle.request.proofs.fate.Reads as fate
+use Rattle.request.proofs.fate.Statement as fate-statement
+use Rattle.request.proofs.fate.Met as fate-met
 use Rattle.request.proofs.wait_now.Kinds as wait-now-kinds
 use Rattle.request.proofs.wait_now.Reads as wait-now
+use Rattle.request.proofs.wait_now.Statement as wait-now-statement
+use Rattle.request.proofs.wait_now.Met as wait-now-met
 use Rattle.request.proofs.bridge.Kinds as bridge-kinds
 use Rattle.request.proofs.bridge.Reads as bridge
+use Rattle.request.proofs.bridge.Statement as bridge-statement
+use Rattle.request.proofs.bridge.Met as bridge-met
 use Rattle.request.proofs.selector.Kinds as selector-kinds
 use Rattle.request.proofs.selector.Reads as selector
+use Rattle.request.proofs.selector.Statement as selector-statement
+use Rattle.request.proofs.selector.Met as selector-met
+
+-- Each public function answers what its definition says, for every input. (`statement` is the contract, as the checker
+-- reads it off the source; it asks nothing of the caller.)
+better-right : {M : Type 1} → better-statement.statement M
+better-right = better-met.met
+
+replaces-right : {M : Type 1} → replaces-statement.statement M
+replaces-right = replaces-met.met
+
+fate-right : {M : Type 1} → fate-statement.statement M
+fate-right = fate-met.met
+
+wait-now-right : {M : Type 1} → wait-now-statement.statement M
+wait-now-right = wait-now-met.met
+
+bridge-right : {M : Type 1} → bridge-statement.statement M
+bridge-right = bridge-met.met
+
+selector-right : {M : Type 1} → selector-statement.statement M
+selector-right = selector-met.met
 
 -- Better is irreflexive and transitive; of two requests above rank 0 that differ in rank or channel one is better; and
 -- RR and NR, of rank 0, never win.

@@ -5,7 +5,7 @@ use lib.ListN.{drop}
 use borrow.Author.Needs.{needs}
 use Rattle.basics.specs.First.{firstOf}
 use Rattle.basics.proofs.Tests.{tests}
-use Rattle.pair.specs.Marks.{faults, mark}
+use Rattle.pair.specs.Marks.{pairFaults, mark}
 use Rattle.pair.proofs.mark.mark_of.Statement.{statement}
 use Rattle.pair.proofs.mark.mark_of.Tie as tie
 
@@ -19,7 +19,7 @@ carries-requires c κs = search needs
 abbrev From : tie.After-carries → ℕ → Type 0
 From b i =
     let a = b .before .before .args in
-    mark (a .n) (a .k1) (a .k2) ≡ firstOf (drop i (faults (a .n) (a .k1) (a .k2)))
+    mark (a .n) (a .k1) (a .k2) ≡ firstOf (drop i (pairFaults (a .n) (a .k1) (a .k2)))
 
 left-1 : (c : tie.Else1) → From (c .before) 1
 unfolding mark
