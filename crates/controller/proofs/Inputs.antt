@@ -14,11 +14,11 @@ use Rattle.pair.specs.Request.{requests, carries}
 use Rattle.pair.specs.Marks.{codeOf, channelOf, mark}
 use Rattle.pair.specs.Coder.{sectionsFit}
 use Rattle.controller.specs.Settings.{maskFits, settingsFaults}
-use Rattle.controller.specs.Refusals.{againstMask, waitFits, acceptable, conditionsFit, channelFits, faults, refusal}
+use Rattle.controller.specs.Refusals.{againstMask, waitFits, acceptable, conditionsFit, channelFits, stepFaults, refusal}
 use Rattle.controller.specs.declared.Controller.{Controller}
 
 pub faults-counted : (s : Controller) (conditions : List ℕ) (command c : ℕ)
-    → CountedFrom 1 (faults s conditions command c)
+    → CountedFrom 1 (stepFaults s conditions command c)
 faults-counted s conditions command c = (refl, (refl, (refl, (refl, (refl, (refl, (refl, tt)))))))
 
 pub record WellFormed (s : Controller) (conditions : List ℕ) (command c : ℕ) : Type 0 where
@@ -34,7 +34,7 @@ pub well-formed : (s : Controller) (conditions : List ℕ) (command c : ℕ) →
     → WellFormed s conditions command c
 unfolding refusal
 well-formed s conditions command c h =
-    let none = none-exact (faults s conditions command c) refl .0 h in
+    let none = none-exact (stepFaults s conditions command c) refl .0 h in
     record {
       fits = not-false (sectionsFit (s .n)) (none 0);
       mask-fits = not-false (maskFits (s .n) (s .mask)) (none 1);
@@ -89,10 +89,10 @@ by-settings false m rest = refl
 pub refusal-by-settings : (s : Controller) (conditions : List ℕ) (command c : ℕ) →
     let first = firstOf (settingsFaults (s .n) (s .mask)) in
     refusal s conditions command c
-    ≡ (if eqb first 0 then firstOf (drop 2 (faults s conditions command c)) else first)
+    ≡ (if eqb first 0 then firstOf (drop 2 (stepFaults s conditions command c)) else first)
 unfolding refusal
 refusal-by-settings s conditions command c =
-    by-settings (sectionsFit (s .n)) (maskFits (s .n) (s .mask)) (firstOf (drop 2 (faults s conditions command c)))
+    by-settings (sectionsFit (s .n)) (maskFits (s .n) (s .mask)) (firstOf (drop 2 (stepFaults s conditions command c)))
 
 pub settings-fit : (n mask : ℕ) → firstOf (settingsFaults n mask) ≡ 0
     → (sectionsFit n ≡ true) × (maskFits n mask ≡ true)

@@ -19,10 +19,10 @@ use Rattle.request.specs.Bridge.{bridge}
 use Rattle.request.specs.declared.Request.{Request}
 use Rattle.request.proofs.Channels.{bridge-within}
 use Rattle.controller.specs.Settings.{maskFits, idleK1, idleK2, fresh, makingCase, making}
-use Rattle.controller.specs.Rules.{asked, accepting, held, kept, given, taken, standing, isWait, waiting}
+use Rattle.controller.specs.Rules.{asked, accepting, held, kept, given, replacesHeld, inForce, isWait, waiting}
 use Rattle.controller.specs.Rules.{localRequest, decided, same, leftAfter, keepsBridge, k1Of, k2Of}
 use Rattle.controller.specs.Refusals.{waitFits, acceptable, conditionsFit, channelFits, refusal}
-use Rattle.controller.specs.Step.{protection, waitOf, refused, answering, moved, step}
+use Rattle.controller.specs.Step.{protection, waitOf, refusedStep, answering, moved, step}
 use Rattle.controller.specs.Run.{Input, inputFits, stepBy, notRefused, run}
 use Rattle.controller.specs.declared.Controller.{Controller}
 use Rattle.controller.specs.declared.Made.the-variants as made
@@ -97,7 +97,7 @@ pub record Sent (s : Controller) (o : Outcome) : Type 0 where
 
 module _ (s : Controller) (k1 k2 : ℕ) (conditions : List ℕ) (command c : ℕ) where
   pub step-refused : (refusal s conditions command c ≡ 0 → ⊥)
-      → step s k1 k2 conditions command c ≡ refused (refusal s conditions command c) s
+      → step s k1 k2 conditions command c ≡ refusedStep (refusal s conditions command c) s
   unfolding step
   step-refused h = rw (ne-eqb (refusal s conditions command c) 0 h)
 
@@ -122,10 +122,10 @@ module _ (s : Controller) (k1 k2 : ℕ) (conditions : List ℕ) (command c : ℕ
       let hold = kept command (held last) in
       let new = given command c in
       let now = waitOf s last command in
-      let stands = standing (taken hold new) hold new in
+      let stands = inForce (replacesHeld hold new) hold new in
       let near = localRequest (s .mask) (protection conditions) (drop 1 conditions) stands (waiting now last) in
       let sent = decided (far .request) near in
-      let fated = fate command (taken hold new) (same sent new) in
+      let fated = fate command (replacesHeld hold new) (same sent new) in
       let usable = far-usable s conditions command c well failed k1 k2 in
       let channel = far-channel s conditions command c well failed k1 k2 in
       let able = sent-sendable s conditions command c well failed k1 k2 in
@@ -143,14 +143,14 @@ module _ (s : Controller) (k1 k2 : ℕ) (conditions : List ℕ) (command c : ℕ
 
   pub step-keeps : step s k1 k2 conditions command c .refusal ≡ 0
       → Kept s (step s k1 k2 conditions command c) × Sent s (step s k1 k2 conditions command c)
-  step-keeps h = let taken = not-refused h in rw (taken .1) (moved-keeps (taken .0))
+  step-keeps h = let goes = not-refused h in rw (goes .1) (moved-keeps (goes .0))
 
   -- a step is not refused, if its settings, its record and its inputs meet none of the refusals
-  pub step-taken : sectionsFit (s .n) ≡ true → maskFits (s .n) (s .mask) ≡ true → acceptable s ≡ true
+  pub step-unrefused : sectionsFit (s .n) ≡ true → maskFits (s .n) (s .mask) ≡ true → acceptable s ≡ true
       → inputFits (s .n) record { k1 = k1; k2 = k2; conditions = conditions; command = command; channel = c } ≡ true
       → step s k1 k2 conditions command c .refusal ≡ 0
   unfolding step moved refusal
-  step-taken fits mask-fits accepts input =
+  step-unrefused fits mask-fits accepts input =
       let last =
       and-eq-true-iff
       (eqb (length conditions) (s .n + 1) && conditionsFit conditions && leb command 4)
@@ -172,15 +172,15 @@ fresh-acceptable n mask w fits =
       waits = refl;
     }
 
-run-taken : (inputs : List Input) (s : Controller) → sectionsFit (s .n) ≡ true → maskFits (s .n) (s .mask) ≡ true
+run-unrefused : (inputs : List Input) (s : Controller) → sectionsFit (s .n) ≡ true → maskFits (s .n) (s .mask) ≡ true
     → acceptable s ≡ true → every (inputFits (s .n)) inputs ≡ true → every notRefused (run s inputs) ≡ true
-run-taken [] s fits mask-fits accepts well = refl
-run-taken (i ∷ rest) s fits mask-fits accepts well =
+run-unrefused [] s fits mask-fits accepts well = refl
+run-unrefused (i ∷ rest) s fits mask-fits accepts well =
     let both = and-eq-true-iff (inputFits (s .n) i) (every (inputFits (s .n)) rest) .0 well in
-    let first = step-taken s (i .k1) (i .k2) (i .conditions) (i .command) (i .channel) fits mask-fits accepts (both .0) in
+    let first = step-unrefused s (i .k1) (i .k2) (i .conditions) (i .command) (i .channel) fits mask-fits accepts (both .0) in
     let kept = step-keeps s (i .k1) (i .k2) (i .conditions) (i .command) (i .channel) first .0 in
     rw first
-    (run-taken rest (stepBy s i .controller) (rw (kept .sections) fits) (rw (kept .sections, kept .priorities) mask-fits)
+    (run-unrefused rest (stepBy s i .controller) (rw (kept .sections) fits) (rw (kept .sections, kept .priorities) mask-fits)
     (kept .accepts) (rw (kept .sections) (both .1)))
 
 -- a record that was made fresh
@@ -188,8 +188,8 @@ module _ (n mask w : ℕ) (s : Controller) (h : makingCase (making n mask w) ≡
   pub made-acceptable : acceptable s ≡ true
   made-acceptable = let facts = fresh-facts n mask w s h in rw (facts .0) (fresh-acceptable n mask w (facts .1))
 
-  pub made-run-taken : (inputs : List Input) → every (inputFits n) inputs ≡ true → every notRefused (run s inputs) ≡ true
-  made-run-taken inputs well =
+  pub made-run-unrefused : (inputs : List Input) → every (inputFits n) inputs ≡ true → every notRefused (run s inputs) ≡ true
+  made-run-unrefused inputs well =
       let facts = fresh-facts n mask w s h in
       rw (facts .0)
-      (run-taken inputs (fresh n mask w) (facts .1) (facts .2) (fresh-acceptable n mask w (facts .1)) well)
+      (run-unrefused inputs (fresh n mask w) (facts .1) (facts .2) (fresh-acceptable n mask w (facts .1)) well)

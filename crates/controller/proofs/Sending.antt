@@ -17,7 +17,7 @@ use Rattle.request.specs.declared.Request.{Request}
 use Rattle.request.proofs.Order.{choice-has, each-append, best-has}
 use Rattle.controller.specs.Settings.{idleK1, idleK2}
 use Rattle.controller.specs.Rules.{noRequest, reverse, asked, accepted, accepting, isCommand, held, isClear}
-use Rattle.controller.specs.Rules.{kept, given, taken, standing, conditionsFrom, isFailOrDegrade, isWait, entersWait}
+use Rattle.controller.specs.Rules.{kept, given, replacesHeld, inForce, conditionsFrom, isFailOrDegrade, isWait, entersWait}
 use Rattle.controller.specs.Rules.{waiting, candidates, localRequest, decided}
 use Rattle.controller.specs.Step.{protection, waitOf}
 use Rattle.controller.specs.declared.Controller.{Controller}
@@ -46,7 +46,7 @@ module _ (s : Controller) (conditions : List ℕ) (command c : ℕ) (given-well 
   new = given command c
 
   abbrev stands : Request
-  stands = standing (taken hold new) hold new
+  stands = inForce (replacesHeld hold new) hold new
 
   abbrev near : Request
   near = localRequest (s .mask) (protection conditions) (drop 1 conditions) stands (waiting now last)
@@ -118,7 +118,7 @@ module _ (s : Controller) (conditions : List ℕ) (command c : ℕ) (given-well 
 
   command-sendable : Able stands
   command-sendable =
-      choice-has Able (taken hold new) new hold given-sendable
+      choice-has Able (replacesHeld hold new) new hold given-sendable
       (choice-has Able (isClear command) noRequest (held last) (none-sendable (s .n) (s .mask) now) held-sendable)
 
   -- where wait remains, the K1 last sent has a section's channel

@@ -14,27 +14,35 @@ use Rattle.request.specs.Order.{byRank, best, OneOf}
 use Rattle.request.specs.declared.Request.{Request}
 use Rattle.controller.specs.Settings.{makingCase, making}
 use Rattle.controller.specs.Rules.{reverse, noRequest, accepting, candidates, localRequest, decided}
-use Rattle.controller.specs.Refusals.{acceptable, conditionsFit, faults, refusal}
-use Rattle.controller.specs.Step.{refused, moved, step}
+use Rattle.controller.specs.Refusals.{acceptable, conditionsFit, stepFaults, refusal}
+use Rattle.controller.specs.Step.{refusedStep, moved, step}
 use Rattle.controller.specs.Run.{Input, inputFits, notRefused, run}
-use Rattle.controller.specs.Sequences.{holds, sequences}
+use Rattle.controller.specs.Sequences.{isRight, sequences}
 use Rattle.controller.specs.declared.Controller.{Controller}
 use Rattle.controller.specs.declared.Made.the-variants as made
 use Rattle.controller.proofs.Candidates.{reverse-loses, none-loses, local-one, local-above, local-single}
 use Rattle.controller.proofs.Inputs.{faults-counted}
-use Rattle.controller.proofs.Keeping.{step-refused, step-keeps, made-acceptable, made-run-taken}
+use Rattle.controller.proofs.Keeping.{step-refused, step-keeps, made-acceptable, made-run-unrefused}
 use Rattle.controller.proofs.Controller.fresh.Kinds as fresh-kinds
 use Rattle.controller.proofs.Controller.fresh.Reads as fresh-fn
 use Rattle.controller.proofs.Controller.fresh.Statement as fresh-statement
 use Rattle.controller.proofs.Controller.fresh.Met as fresh-met
 use Rattle.controller.proofs.asked.asked.Kinds as asked-kinds
 use Rattle.controller.proofs.asked.asked.Reads as asked-fn
+use Rattle.controller.proofs.asked.asked.Statement as asked-statement
+use Rattle.controller.proofs.asked.asked.Met as asked-met
 use Rattle.controller.proofs.command.held.Kinds as held-kinds
 use Rattle.controller.proofs.command.held.Reads as held-fn
+use Rattle.controller.proofs.command.held.Statement as held-statement
+use Rattle.controller.proofs.command.held.Met as held-met
 use Rattle.controller.proofs.section.condition.Kinds as condition-kinds
 use Rattle.controller.proofs.section.condition.Reads as condition-fn
+use Rattle.controller.proofs.section.condition.Statement as condition-statement
+use Rattle.controller.proofs.section.condition.Met as condition-met
 use Rattle.controller.proofs.wait.wait_of.Kinds as wait-of-kinds
 use Rattle.controller.proofs.wait.wait_of.Reads as wait-of-fn
+use Rattle.controller.proofs.wait.wait_of.Statement as wait-of-statement
+use Rattle.controller.proofs.wait.wait_of.Met as wait-of-met
 use Rattle.controller.proofs.Controller.step.Kinds as step-kinds
 use Rattle.controller.proofs.Controller.step.Reads as step-fn
 use Rattle.controller.proofs.Controller.step.Statement as step-statement
@@ -47,6 +55,19 @@ fresh-right = fresh-met.met
 
 step-right : {M : Type 1} → step-statement.statement M
 step-right = step-met.met
+
+-- So does what is open to the judge alone.
+asked-right : {M : Type 1} → asked-statement.statement M
+asked-right = asked-met.met
+
+held-right : {M : Type 1} → held-statement.statement M
+held-right = held-met.met
+
+condition-right : {M : Type 1} → condition-statement.statement M
+condition-right = condition-met.met
+
+wait-of-right : {M : Type 1} → wait-of-statement.statement M
+wait-of-right = wait-of-met.met
 
 -- Two answers that the promise of a public function allows are equal. (`Post` is the function's `ensures`.)
 fresh-unique : OneAnswer 0 fresh-kinds.ps fresh-kinds.r fresh-fn.Post
@@ -70,20 +91,20 @@ shared-unique = (
 -- The refusals come in the paper's order: a step has refusal i + 1 exactly if the fault at place i is its first, and none
 -- exactly if there is no fault. A refused step answers zeros and the given record.
 refusals-right : (s : Controller) (conditions : List ℕ) (command c i : ℕ)
-    → (refusal s conditions command c ≡ i + 1) ↔ FirstAt (faults s conditions command c) i
+    → (refusal s conditions command c ≡ i + 1) ↔ FirstAt (stepFaults s conditions command c) i
 unfolding refusal
 refusals-right s conditions command c =
-    first-exact (faults s conditions command c) (faults-counted s conditions command c)
+    first-exact (stepFaults s conditions command c) (faults-counted s conditions command c)
 
 refusals-complete : (s : Controller) (conditions : List ℕ) (command c : ℕ)
-    → (refusal s conditions command c ≡ 0) ↔ ((i : ℕ) → appliesAt (faults s conditions command c) i ≡ false)
+    → (refusal s conditions command c ≡ 0) ↔ ((i : ℕ) → appliesAt (stepFaults s conditions command c) i ≡ false)
 unfolding refusal
 refusals-complete s conditions command c =
-    none-exact (faults s conditions command c) refl
+    none-exact (stepFaults s conditions command c) refl
 
 refused-right : (s : Controller) (k1 k2 : ℕ) (conditions : List ℕ) (command c : ℕ)
     → (refusal s conditions command c ≡ 0 → ⊥)
-    → step s k1 k2 conditions command c ≡ refused (refusal s conditions command c) s
+    → step s k1 k2 conditions command c ≡ refusedStep (refusal s conditions command c) s
 refused-right = step-refused
 
 -- A fresh record is acceptable: it meets none of refusal 3.
@@ -112,7 +133,7 @@ sent-right s k1 k2 conditions command c h =
 -- So no step of a run is refused, from a fresh record and with inputs that meet none of refusals 4 to 7.
 run-complete : (n mask w : ℕ) (s : Controller) → makingCase (making n mask w) ≡ made.Fresh s
     → (inputs : List Input) → every (inputFits n) inputs ≡ true → every notRefused (run s inputs) ≡ true
-run-complete = made-run-taken
+run-complete = made-run-unrefused
 
 -- The local request is NR 0 or one of the candidates; no candidate is better; and a single candidate is it, whatever
 -- stands beside it that cannot win.
@@ -140,6 +161,6 @@ none-right : (near : Request) → decided noRequest near ≡ near
 none-right = none-loses
 
 -- P1 to P13: every value that the paper gives.
-sequences-right : every holds sequences ≡ true
+sequences-right : every isRight sequences ≡ true
 unfolding step moved refusal conditionsFit acceptable localRequest accepting best mark rankOf rankIn carries listed
 sequences-right = refl

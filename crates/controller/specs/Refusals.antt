@@ -6,7 +6,7 @@ use lib.Dec.{ltb, leb, eqb}
 use lib.ListN.{length}
 use Rattle.basics.specs.Choice.{if_then_else_}
 use Rattle.basics.specs.First.{Check, _when_, firstOf}
-use Rattle.pair.specs.Request.{requests, carries}
+use Rattle.pair.specs.Request.{failHighCode, failLowCode, degradeHighCode, degradeLowCode, requests, carries}
 use Rattle.pair.specs.Marks.{codeOf, channelOf, mark}
 use Rattle.controller.specs.Settings.{high, settingsFaults}
 use Rattle.controller.specs.Rules.{isWait}
@@ -15,7 +15,8 @@ use Rattle.controller.specs.declared.Controller.{Controller}
 -- a fail or degrade code of the other priority
 abbrev pub otherPriority : Bool → ℕ → Bool
 otherPriority isHigh code =
-    if isHigh then eqb code 0b1100 || eqb code 0b1010 else eqb code 0b1101 || eqb code 0b1011
+    if isHigh then eqb code failLowCode || eqb code degradeLowCode
+    else eqb code failHighCode || eqb code degradeHighCode
 
 -- the code of a section, 1 or more, that the mask codes otherwise
 abbrev pub againstMask : ℕ → ℕ → ℕ → Bool
@@ -43,8 +44,8 @@ abbrev pub channelFits : ℕ → ℕ → ℕ → Bool
 channelFits n command c = if leb command 2 then eqb c 0 else leb 1 c && leb c n
 
 -- in the paper's order
-abbrev pub faults : Controller → List ℕ → ℕ → ℕ → List Check
-faults s conditions command c =
+abbrev pub stepFaults : Controller → List ℕ → ℕ → ℕ → List Check
+stepFaults s conditions command c =
     settingsFaults (s .n) (s .mask)
     ++ ((3 when not (acceptable s))
     ∷ (4 when not (eqb (length conditions) (s .n + 1)))
@@ -54,4 +55,4 @@ faults s conditions command c =
     ∷ [])
 
 unfoldable pub refusal : Controller → List ℕ → ℕ → ℕ → ℕ
-refusal s conditions command c = firstOf (faults s conditions command c)
+refusal s conditions command c = firstOf (stepFaults s conditions command c)

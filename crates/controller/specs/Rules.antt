@@ -4,7 +4,8 @@ use mathlib.Core.List.{List, [], _∷_, _++_}
 use Prim.Native.Nat.{ℕ, suc, _+_, _*_}
 use lib.Dec.{ltb, leb, eqb}
 use Rattle.basics.specs.Choice.{if_then_else_}
-use Rattle.pair.specs.Request.{rankOf}
+use Rattle.pair.specs.Request.{lockoutCode, forcedCode, failHighCode, failLowCode, degradeHighCode, degradeLowCode}
+use Rattle.pair.specs.Request.{manualCode, waitCode, reverseCode, nothingCode, rankOf}
 use Rattle.pair.specs.Marks.{codeOf, channelOf, bridgedOf, mark}
 use Rattle.request.specs.Order.{byRank, best}
 use Rattle.request.specs.Command.{replaces}
@@ -13,28 +14,28 @@ use Rattle.controller.specs.Settings.{high, idleK1, idleK2}
 use Rattle.controller.specs.declared.Controller.{Controller}
 use Rattle.controller.specs.declared.Accepted.{Accepted}
 
--- the requests by their codes in the table
+-- a request: its code in the table, and its channel
 abbrev pub request : ℕ → ℕ → Request
 request code c = record { code = code; channel = c }
 
 abbrev pub lockout : Request
-lockout = request 0b1111 0
+lockout = request lockoutCode 0
 
 abbrev pub forced : ℕ → Request
-forced c = request 0b1110 c
+forced c = request forcedCode c
 
 abbrev pub manual : ℕ → Request
-manual c = request 0b1000 c
+manual c = request manualCode c
 
 abbrev pub waitToRestore : ℕ → Request
-waitToRestore c = request 0b0110 c
+waitToRestore c = request waitCode c
 
 abbrev pub reverse : ℕ → Request
-reverse c = request 0b0010 c
+reverse c = request reverseCode c
 
 -- NR 0
 abbrev pub noRequest : Request
-noRequest = request 0b0000 0
+noRequest = request nothingCode 0
 
 -- what a K1 asks for
 abbrev pub asked : ℕ → Request
@@ -57,7 +58,7 @@ accepting s failed k1 k2 =
 
 -- 2. Command. LO, FS and MS are commands; the one that is held is read off the K1 last sent.
 abbrev pub isCommand : ℕ → Bool
-isCommand code = eqb code 0b1111 || eqb code 0b1110 || eqb code 0b1000
+isCommand code = eqb code lockoutCode || eqb code forcedCode || eqb code manualCode
 
 abbrev pub held : Request → Request
 held last = if isCommand (last .code) then last else noRequest
@@ -77,19 +78,19 @@ given command c =
     else if eqb command 4 then manual c
     else noRequest
 
--- whether the new one takes the place of the held one
-abbrev pub taken : Request → Request → Bool
-taken hold new = replaces (rankOfRequest hold) (rankOfRequest new)
+-- whether the new one replaces the held one; the one of the two that is then in force
+abbrev pub replacesHeld : Request → Request → Bool
+replacesHeld hold new = replaces (rankOfRequest hold) (rankOfRequest new)
 
-abbrev pub standing : Bool → Request → Request → Request
-standing replaced hold new = if replaced then new else hold
+abbrev pub inForce : Bool → Request → Request → Request
+inForce replaced hold new = if replaced then new else hold
 
 -- 3. Local request. What the condition of a section asks for, by its priority.
 abbrev pub failCode : Bool → ℕ
-failCode isHigh = if isHigh then 0b1101 else 0b1100
+failCode isHigh = if isHigh then failHighCode else failLowCode
 
 abbrev pub degradeCode : Bool → ℕ
-degradeCode isHigh = if isHigh then 0b1011 else 0b1010
+degradeCode isHigh = if isHigh then degradeHighCode else degradeLowCode
 
 abbrev pub condition : ℕ → ℕ → ℕ → Request
 condition mask c x =
@@ -104,10 +105,11 @@ conditionsFrom mask c (x ∷ rest) = condition mask c x ∷ conditionsFrom mask 
 
 -- a wait belongs to the section whose fail or degrade, or whose WTR, went out last
 abbrev pub isFailOrDegrade : ℕ → Bool
-isFailOrDegrade code = eqb code 0b1101 || eqb code 0b1100 || eqb code 0b1011 || eqb code 0b1010
+isFailOrDegrade code =
+    eqb code failHighCode || eqb code failLowCode || eqb code degradeHighCode || eqb code degradeLowCode
 
 abbrev pub isWait : ℕ → Bool
-isWait code = eqb code 0b0110
+isWait code = eqb code waitCode
 
 abbrev pub entersWait : Request → Bool
 entersWait last = isFailOrDegrade (last .code) && leb 1 (last .channel)
@@ -140,7 +142,7 @@ leftAfter sent now = if isWait (sent .code) then now else 0
 -- 6 and 7. Bridge and selector are channels alone (request, Bridge). Sending NR keeps the bridge, as Table 7-4 does since
 -- its correction in 003.
 abbrev pub keepsBridge : Request → Bool
-keepsBridge sent = eqb (sent .code) 0b0000
+keepsBridge sent = eqb (sent .code) nothingCode
 
 -- the bytes that are sent; bit 5 is 1, the line bits are 000
 abbrev pub k1Of : Request → ℕ

@@ -102,8 +102,8 @@ infix 15 _answers_
 pub data Line : Type 0 where
   _answers_ : Outcome → List Value → Line
 
-abbrev pub holds : Line → Bool
-holds (o answers values) = gives o values
+abbrev pub isRight : Line → Bool
+isRight (o answers values) = gives o values
 
 abbrev pub sequences : List Line
 sequences =

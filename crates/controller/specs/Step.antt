@@ -8,7 +8,7 @@ use Rattle.request.specs.Command.{fate}
 use Rattle.request.specs.Wait.{waitNow}
 use Rattle.request.specs.Bridge.{bridge, selector}
 use Rattle.request.specs.declared.Request.{Request}
-use Rattle.controller.specs.Rules.{asked, accepting, held, isClear, kept, given, taken, standing}
+use Rattle.controller.specs.Rules.{asked, accepting, held, isClear, kept, given, replacesHeld, inForce}
 use Rattle.controller.specs.Rules.{isWait, entersWait, waiting, localRequest, decided, same}
 use Rattle.controller.specs.Rules.{leftAfter, keepsBridge, k1Of, k2Of}
 use Rattle.controller.specs.Refusals.{refusal}
@@ -17,8 +17,8 @@ use Rattle.controller.specs.declared.Accepted.{Accepted}
 use Rattle.controller.specs.declared.Outcome.{Outcome}
 
 -- refused: the number, and the record as it came
-abbrev pub refused : ℕ → Controller → Outcome
-refused k s =
+abbrev pub refusedStep : ℕ → Controller → Outcome
+refusedStep k s =
     record { refusal = k; controller = s; k1 = 0; k2 = 0; bridge = 0; selector = 0; mark = 0; fate = 0 }
 
 -- the condition of section 0
@@ -60,13 +60,13 @@ moved s k1 k2 conditions command c =
     let far = accepting s (eqb protect 2) k1 k2 in
     let hold = kept command (held last) in
     let new = given command c in
-    let replaced = taken hold new in
+    let replaced = replacesHeld hold new in
     let now = waitOf s last command in
-    let near = localRequest (s .mask) protect (drop 1 conditions) (standing replaced hold new) (waiting now last) in
+    let near = localRequest (s .mask) protect (drop 1 conditions) (inForce replaced hold new) (waiting now last) in
     let sent = decided (far .request) near in
     answering s far sent now (fate command replaced (same sent new))
 
 unfoldable pub step : Controller → ℕ → ℕ → List ℕ → ℕ → ℕ → Outcome
 step s k1 k2 conditions command c =
     if eqb (refusal s conditions command c) 0 then moved s k1 k2 conditions command c
-    else refused (refusal s conditions command c) s
+    else refusedStep (refusal s conditions command c) s

@@ -7,9 +7,9 @@ use crate::asked::asked;
 use crate::codes::NOTHING;
 use crate::command::given;
 use crate::command::held;
+use crate::command::in_force;
 use crate::command::kept;
-use crate::command::standing;
-use crate::command::taken;
+use crate::command::replaces_held;
 use crate::local::decided;
 use crate::local::local_request;
 use crate::wait::left_after;
@@ -22,11 +22,11 @@ use request::selector;
 ghost use Prim.Native.Nat.{_≤_};
 ghost use Rattle.controller.specs.Refusals.{refusal};
 ghost use Rattle.controller.specs.Rules.{keepsBridge, same};
-ghost use Rattle.controller.specs.Step.{refused, answering, moved};
+ghost use Rattle.controller.specs.Step.{refusedStep, answering, moved};
 ghost use mathlib.Core.Path.{_≡_};
 
-pub(crate) fn refused(k: u8, s: Controller) -> Outcome
-    ensures { λ r. ⌜ r ≡ refused k s ⌝ }
+pub(crate) fn refused_step(k: u8, s: Controller) -> Outcome
+    ensures { λ r. ⌜ r ≡ refusedStep k s ⌝ }
 {
     Outcome {
         refusal: k,
@@ -94,11 +94,11 @@ pub(crate) fn moved(s: Controller, k1: u8, k2: u8, conditions: &[u8], command: u
     let far = accepting(s, protect == 2, k1, k2);
     let hold = kept(command, held(last));
     let new = given(command, c);
-    let replaced = taken(hold, new);
-    let stands = standing(replaced, hold, new);
+    let replaced = replaces_held(hold, new);
+    let in_force = in_force(replaced, hold, new);
     let now = wait_of(s, last, command);
     let wait = waiting(now, last);
-    let near = local_request(s.mask, protect, conditions, stands, wait);
+    let near = local_request(s.mask, protect, conditions, in_force, wait);
     let heard = far.request;
     let sent = decided(heard, near);
     let fate = fate(command, replaced, same(sent, new));

@@ -6,7 +6,7 @@ use crate::codes::MANUAL_SWITCH;
 use crate::codes::NO_REQUEST;
 use request::Request;
 use request::replaces;
-ghost use Rattle.controller.specs.Rules.{isCommand, held, kept, given, taken, standing};
+ghost use Rattle.controller.specs.Rules.{isCommand, held, kept, given, replacesHeld, inForce};
 ghost use mathlib.Core.Path.{_≡_};
 
 fn is_command(code: u8) -> bool
@@ -55,14 +55,14 @@ pub(crate) fn given(command: u8, c: u8) -> Request
     NO_REQUEST
 }
 
-pub(crate) fn taken(hold: Request, new: Request) -> bool
-    ensures { λ r. ⌜ r ≡ taken hold new ⌝ }
+pub(crate) fn replaces_held(hold: Request, new: Request) -> bool
+    ensures { λ r. ⌜ r ≡ replacesHeld hold new ⌝ }
 {
     replaces(rank_of(hold), rank_of(new))
 }
 
-pub(crate) fn standing(replaced: bool, hold: Request, new: Request) -> Request
-    ensures { λ r. ⌜ r ≡ standing replaced hold new ⌝ }
+pub(crate) fn in_force(replaced: bool, hold: Request, new: Request) -> Request
+    ensures { λ r. ⌜ r ≡ inForce replaced hold new ⌝ }
 {
     if replaced { new } else { hold }
 }

@@ -10,7 +10,7 @@ pub mod section;
 pub mod wait;
 
 use crate::answer::moved;
-use crate::answer::refused;
+use crate::answer::refused_step;
 use crate::refusal::refusal_of;
 use crate::refusal::settings_refusal;
 use request::Request;
@@ -64,7 +64,7 @@ impl Controller {
         if refusal == 0 {
             moved(self, k1, k2, conditions, command, channel)
         } else {
-            refused(refusal, self)
+            refused_step(refusal, self)
         }
     }
 }

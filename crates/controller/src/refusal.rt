@@ -38,10 +38,10 @@ pub(crate) fn settings_refusal(n: u8, mask: u16) -> u8
     0
 }
 
-fn other_priority(first: bool, code: u8) -> bool
-    ensures { λ r. ⌜ r ≡ otherPriority first code ⌝ }
+fn other_priority(high: bool, code: u8) -> bool
+    ensures { λ r. ⌜ r ≡ otherPriority high code ⌝ }
 {
-    if first {
+    if high {
         (code == FAIL_LOW) | (code == DEGRADE_LOW)
     } else {
         (code == FAIL_HIGH) | (code == DEGRADE_HIGH)

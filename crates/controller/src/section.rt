@@ -9,7 +9,7 @@ ghost use Rattle.controller.specs.Rules.{failCode, degradeCode, conditio
 ghost use Rattle.controller.specs.Settings.{high};
 ghost use mathlib.Core.Path.{_≡_};
 
-// Section 0's bit stands below those of the mask.
+// Section 0's bit stands below the 16 of the mask, so no channel above 16 has a bit.
 pub(crate) fn high(mask: u16, c: u8) -> bool
     ensures { λ r. ⌜ r ≡ high mask c ⌝ }
 {
@@ -20,31 +20,31 @@ pub(crate) fn high(mask: u16, c: u8) -> bool
     }
 }
 
-fn fail_code(first: bool) -> u8
-    ensures { λ r. ⌜ r ≡ failCode first ⌝ }
+fn fail_code(high: bool) -> u8
+    ensures { λ r. ⌜ r ≡ failCode high ⌝ }
 {
-    if first { FAIL_HIGH } else { FAIL_LOW }
+    if high { FAIL_HIGH } else { FAIL_LOW }
 }
 
-fn degrade_code(first: bool) -> u8
-    ensures { λ r. ⌜ r ≡ degradeCode first ⌝ }
+fn degrade_code(high: bool) -> u8
+    ensures { λ r. ⌜ r ≡ degradeCode high ⌝ }
 {
-    if first { DEGRADE_HIGH } else { DEGRADE_LOW }
+    if high { DEGRADE_HIGH } else { DEGRADE_LOW }
 }
 
 pub fn condition(mask: u16, c: u8, x: u8) -> Request
     ensures { λ r. ⌜ r ≡ condition mask c x ⌝ }
 {
-    let first = high(mask, c);
+    let is_high = high(mask, c);
     if x == 2 {
         return Request {
-            code: fail_code(first),
+            code: fail_code(is_high),
             channel: c,
         };
     }
     if x == 1 {
         return Request {
-            code: degrade_code(first),
+            code: degrade_code(is_high),
             channel: c,
         };
     }

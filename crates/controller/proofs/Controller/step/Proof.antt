@@ -11,8 +11,8 @@ refusal-of-requires c κs = search needs
 moved-requires : tie.Need-moved-requires
 moved-requires c κs = search needs
 
-refused-requires : tie.Need-refused-requires
-refused-requires c κs = search needs
+refused-step-requires : tie.Need-refused-step-requires
+refused-step-requires c κs = search needs
 
 returns : tie.Need-returns
 unfolding step
@@ -23,9 +23,9 @@ returns c =
 returns-2 : tie.Need-returns-2
 unfolding step
 returns-2 c =
-    rw (c .refused .ensures, ← c .before .before .refusal-of .ensures)
+    rw (c .refused-step .ensures, ← c .before .before .refusal-of .ensures)
     (simp (ne-eqb (c .before .before .refusal-of .result) 0 (c .before .if1 .left)))
 
 pub step-spec : {M : Type 1} → statement M
 step-spec =
-    tie.close (tie.spec refusal-of-requires moved-requires refused-requires returns returns-2)
+    tie.close (tie.spec refusal-of-requires moved-requires refused-step-requires returns returns-2)

@@ -4,7 +4,7 @@ use native.Mathlib.Omega.{arith}
 use lib.Dec.{eqb}
 use lib.ListN.{drop}
 use Rattle.request.specs.declared.Request.{Request}
-use Rattle.controller.specs.Rules.{asked, accepting, held, kept, given, taken, standing, waiting, localRequest}
+use Rattle.controller.specs.Rules.{asked, accepting, held, kept, given, replacesHeld, inForce, waiting, localRequest}
 use Rattle.controller.specs.Rules.{decided}
 use Rattle.controller.specs.Step.{protection, waitOf, moved}
 use Rattle.controller.proofs.Usability.{section-bounds}
@@ -28,15 +28,15 @@ sentOf c =
     let new = given (a .command) (a .c) in
     let wait = waiting (waitOf (a .s) last (a .command)) last in
     decided (accepting (a .s) (eqb protect 2) (a .k1) (a .k2) .request)
-    (localRequest (a .s .mask) protect (drop 1 (a .conditions .now)) (standing (taken hold new) hold new) wait)
+    (localRequest (a .s .mask) protect (drop 1 (a .conditions .now)) (inForce (replacesHeld hold new) hold new) wait)
 
 -- whether the new command has replaced the held one
-weighed : (c : tie.After-standing) →
+weighed : (c : tie.After-in-force) →
     let a = c .before .before .before .before .before .before .before .before .before .args in
-    c .before .taken .result ≡ taken (kept (a .command) (held (asked (a .s .sent)))) (given (a .command) (a .c))
+    c .before .replaces-held .result ≡ replacesHeld (kept (a .command) (held (asked (a .s .sent)))) (given (a .command) (a .c))
 weighed c =
     rw (
-      c .before .taken .ensures,
+      c .before .replaces-held .ensures,
       c .before .before .given .ensures,
       c .before .before .before .kept .ensures,
       c .before .before .before .before .held .ensures,
@@ -52,7 +52,7 @@ sent-is c =
       near .local-request .ensures,
       near .before .waiting .ensures,
       near .before .before .wait-of .ensures,
-      stood .standing .ensures,
+      stood .in-force .ensures,
       weighed stood,
       stood .before .before .given .ensures,
       stood .before .before .before .kept .ensures,
@@ -79,11 +79,11 @@ kept-requires c κs = search needs
 given-requires : tie.Need-given-requires
 given-requires c κs = search needs
 
-taken-requires : tie.Need-taken-requires
-taken-requires c κs = search needs
+replaces-held-requires : tie.Need-replaces-held-requires
+replaces-held-requires c κs = search needs
 
-standing-requires : tie.Need-standing-requires
-standing-requires c κs = search needs
+in-force-requires : tie.Need-in-force-requires
+in-force-requires c κs = search needs
 
 wait-of-requires : tie.Need-wait-of-requires
 wait-of-requires c κs = search needs
@@ -146,8 +146,8 @@ moved-spec =
     held-requires
     kept-requires
     given-requires
-    taken-requires
-    standing-requires
+    replaces-held-requires
+    in-force-requires
     wait-of-requires
     waiting-requires
     local-request-requires

@@ -1,8 +1,8 @@
--- `taken` meets its contract.
+-- `replaces_held` meets its contract.
 use Rattle.basics.proofs.Tests.{tests}
 use borrow.Author.Needs.{needs}
-use Rattle.controller.proofs.command.taken.Statement.{statement}
-use Rattle.controller.proofs.command.taken.Tie as tie
+use Rattle.controller.proofs.command.replaces_held.Statement.{statement}
+use Rattle.controller.proofs.command.replaces_held.Tie as tie
 
 rank-of-requires : tie.Need-rank-of-requires
 rank-of-requires c κs = search needs
@@ -21,5 +21,5 @@ returns c =
       ← c .before .before .rank-of .ensures,
     ) (search tests)
 
-pub taken-spec : {M : Type 1} → statement M
-taken-spec = tie.close (tie.spec rank-of-requires rank-of-requires-2 replaces-requires returns)
+pub replaces-held-spec : {M : Type 1} → statement M
+replaces-held-spec = tie.close (tie.spec rank-of-requires rank-of-requires-2 replaces-requires returns)

@@ -6,7 +6,7 @@ use lib.ListN.{length, drop}
 use borrow.Author.Tests.{eq-eqb, ne-eqb, lt-ltb, le-ltb}
 use Rattle.basics.specs.Choice.{if_then_else_}
 use Rattle.basics.specs.First.{firstOf}
-use Rattle.controller.specs.Refusals.{faults, refusal}
+use Rattle.controller.specs.Refusals.{stepFaults, refusal}
 use Rattle.controller.proofs.Inputs.{refusal-by-settings}
 use borrow.Author.Needs.{needs}
 use Rattle.controller.proofs.refusal.refusal_of.Statement.{statement}
@@ -17,13 +17,13 @@ abbrev From : tie.After-settings-refusal → ℕ → Type 0
 From b i =
     let a = b .before .before .args in
     refusal (a .s) (a .conditions .now) (a .command) (a .c)
-    ≡ firstOf (drop i (faults (a .s) (a .conditions .now) (a .command) (a .c)))
+    ≡ firstOf (drop i (stepFaults (a .s) (a .conditions .now) (a .command) (a .c)))
 
 by-settings : (c : tie.After-settings-refusal) →
     let a = c .before .before .args in
     let k = c .settings-refusal .result in
     refusal (a .s) (a .conditions .now) (a .command) (a .c)
-    ≡ (if eqb k 0 then firstOf (drop 2 (faults (a .s) (a .conditions .now) (a .command) (a .c))) else k)
+    ≡ (if eqb k 0 then firstOf (drop 2 (stepFaults (a .s) (a .conditions .now) (a .command) (a .c))) else k)
 by-settings c =
     let a = c .before .before .args in
     rw (c .settings-refusal .ensures) (refusal-by-settings (a .s) (a .conditions .now) (a .command) (a .c))
