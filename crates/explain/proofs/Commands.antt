@@ -9,7 +9,7 @@ use Rattle.pair.specs.Request.{requests, carries, channel-0, a-section, rankIn,
 use Rattle.pair.proofs.Rows.{heldIn, carried-within}
 use Rattle.request.specs.declared.Request.{Request}
 use Rattle.request.proofs.Order.{or-true, or-right}
-use Rattle.controller.specs.Rules.{request, noRequest, rankOfRequest, isCommand, held, isClear, given, taken, same}
+use Rattle.controller.specs.Rules.{request, noRequest, rankOfRequest, isCommand, held, isClear, given, replacesHeld, same}
 use Rattle.controller.specs.Refusals.{channelFits}
 use Rattle.explain.specs.Cause.{commanded}
 use Rattle.explain.proofs.Ranking.{section-rank, on-section, on-protection}
@@ -82,25 +82,25 @@ module _ (n : ℕ) (x : Request) (carried : carries requests n (x .code) (x .cha
 
 -- the closed form for commands, taken apart
 pub commanded-by : (hold x : Request) → commanded hold (held x) ≡ true
-    → (isCommand (x .code) ≡ true) × ((x ≡ hold) ⊎ (taken hold x ≡ true))
+    → (isCommand (x .code) ≡ true) × ((x ≡ hold) ⊎ (replacesHeld hold x ≡ true))
 commanded-by hold x h = go (isCommand (x .code)) refl
   where
-    go : (t : Bool) → isCommand (x .code) ≡ t → (isCommand (x .code) ≡ true) × ((x ≡ hold) ⊎ (taken hold x ≡ true))
+    go : (t : Bool) → isCommand (x .code) ≡ t → (isCommand (x .code) ≡ true) × ((x ≡ hold) ⊎ (replacesHeld hold x ≡ true))
     go true e =
-        let sent : not (eqb (x .code) 0b0000) && (same x hold || taken hold x) ≡ true = rw e at h in
-        let which = and-eq-true-iff (not (eqb (x .code) 0b0000)) (same x hold || taken hold x) .0 sent .1 in
-        (e, ⊎-elim (λ s. inl (same-eq x hold s)) inr (or-true (same x hold) (taken hold x) which))
+        let sent : not (eqb (x .code) 0b0000) && (same x hold || replacesHeld hold x) ≡ true = rw e at h in
+        let which = and-eq-true-iff (not (eqb (x .code) 0b0000)) (same x hold || replacesHeld hold x) .0 sent .1 in
+        (e, ⊎-elim (λ s. inl (same-eq x hold s)) inr (or-true (same x hold) (replacesHeld hold x) which))
     go false e = absurd (false≢true (rw e at h))
 
 -- and put together
-pub commanded-of : (hold x : Request) → isCommand (x .code) ≡ true → (x ≡ hold) ⊎ (taken hold x ≡ true)
+pub commanded-of : (hold x : Request) → isCommand (x .code) ≡ true → (x ≡ hold) ⊎ (replacesHeld hold x ≡ true)
     → commanded hold (held x) ≡ true
 commanded-of hold x e how = rw e (rw (some, which how))
   where
     some : eqb (x .code) 0b0000 ≡ false
     some = ne-eqb (x .code) 0b0000 (λ z. false≢true (rw z at e))
 
-    which : (x ≡ hold) ⊎ (taken hold x ≡ true) → same x hold || taken hold x ≡ true
+    which : (x ≡ hold) ⊎ (replacesHeld hold x ≡ true) → same x hold || replacesHeld hold x ≡ true
     which (inl is) =
         let code : eqb (x .code) (hold .code) ≡ true = eq-eqb (x .code) (hold .code) (ap (λ (r : Request). r .code) is) in
         let channel : eqb (x .channel) (hold .channel) ≡ true =

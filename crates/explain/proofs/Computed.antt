@@ -11,7 +11,7 @@ use Rattle.pair.specs.Request.{listed, carries, rankIn, rankOf}
 use Rattle.pair.specs.Marks.{mark}
 use Rattle.controller.specs.Settings.{fresh}
 use Rattle.explain.specs.Verdict.{Judging, sizeFaults, Right}
-use Rattle.explain.specs.Lines.{Line, _is_, lines, Hold}
+use Rattle.explain.specs.Lines.{Line, _is_, lines, AllRight}
 use Rattle.explain.specs.Cause.{arises, unseen, answers}
 use Rattle.explain.specs.Trace.{next, scanned}
 use Rattle.explain.proofs.Judged.{scanned-right}
@@ -37,17 +37,17 @@ table : every gives lines ≡ true
 unfolding alike next arises unseen answers mark carries listed rankOf rankIn
 table = refl
 
-hold : (some : List Line) → every gives some ≡ true → Hold some
-hold [] h = tt
-hold ((bytes is j) ∷ rest) h =
+all-right : (some : List Line) → every gives some ≡ true → AllRight some
+all-right [] h = tt
+all-right ((bytes is j) ∷ rest) h =
     let both = and-eq-true-iff (gives (bytes is j)) (every gives rest) .0 h in
     let parts =
     and-eq-true-iff (eqb (firstOf (sizeFaults (length bytes))) 0) (alike (scanned (fresh 2 0 3) bytes) j) .0 (both .0) in
     let none = eqb-true (firstOf (sizeFaults (length bytes))) 0 (parts .0) in (
       subst (Right 2 0 3 bytes) (alike-eq (scanned (fresh 2 0 3) bytes) j (parts .1))
           (scanned-right 2 0 3 bytes refl refl none),
-      hold rest (both .1),
+      all-right rest (both .1),
     )
 
-pub lines-hold : Hold lines
-lines-hold = hold lines table
+pub lines-all-right : AllRight lines
+lines-all-right = all-right lines table

@@ -19,7 +19,7 @@ use Rattle.controller.specs.declared.Controller.{Controller}
 use Rattle.controller.proofs.Keeping.{fresh-acceptable}
 use Rattle.explain.specs.Capture.{Row, rowsOf}
 use Rattle.explain.specs.Explained.{Cause, stepped, Sends, Explains, Explained}
-use Rattle.explain.specs.Verdict.{Judging, explainedAt, unexplainedAt, told, faults, Found, Right}
+use Rattle.explain.specs.Verdict.{Judging, explainedAt, unexplainedAt, told, judgeFaults, Found, Right}
 use Rattle.explain.specs.Scan.{Scanned, all, first, scanFrom}
 use Rattle.explain.specs.Trace.{start, live, next, verdictOf}
 use Rattle.explain.specs.declared.Records.{Records}
@@ -70,7 +70,7 @@ module _ (n mask w : ℕ) where
           (fresh n mask w, causes, inl (refl, refl), explains-run (fresh n mask w) causes rows .0 h)
 
   module _ (fits : sectionsFit n ≡ true) (mask-fits : maskFits n mask ≡ true) where
-    begin-able : (s : Controller) → In begin s → Able s
+    pub begin-able : (s : Controller) → In begin s → Able s
     begin-able s (inl (e, is)) =
         rw is record { fits = fits; mask-fits = mask-fits; accepts = fresh-acceptable n mask w fits }
     begin-able s (inr (e, is)) = absurd (false≢true e)
@@ -122,9 +122,9 @@ module _ (n mask w : ℕ) where
 
   pub right-one : (bytes : List ℕ) (j k : Judging) → Right n mask w bytes j → Right n mask w bytes k → j ≡ k
   unfolding Right
-  right-one bytes j k = go (eqb (firstOf (faults n mask (length bytes))) 0) refl
+  right-one bytes j k = go (eqb (firstOf (judgeFaults n mask (length bytes))) 0) refl
     where
-      go : (t : Bool) → eqb (firstOf (faults n mask (length bytes))) 0 ≡ t
+      go : (t : Bool) → eqb (firstOf (judgeFaults n mask (length bytes))) 0 ≡ t
           → Right n mask w bytes j → Right n mask w bytes k → j ≡ k
       go true e h h′ = found-one (rowsOf bytes) j k (rw e at h) (rw e at h′)
       go false e h h′ =
@@ -133,7 +133,7 @@ module _ (n mask w : ℕ) where
           p ∙ sym q
 
 module _ (n mask w : ℕ) (bytes : List ℕ) (j : Judging) (right : Right n mask w bytes j)
-    (none : firstOf (faults n mask (length bytes)) ≡ 0) where
+    (none : firstOf (judgeFaults n mask (length bytes)) ≡ 0) where
   abbrev rows : List Row
   rows = rowsOf bytes
 

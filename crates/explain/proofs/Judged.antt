@@ -12,7 +12,7 @@ use Rattle.pair.specs.Coder.{sectionsFit}
 use Rattle.controller.specs.Settings.{maskFits, fresh, settingsFaults}
 use Rattle.controller.proofs.Inputs.{settings-fit}
 use Rattle.explain.specs.Capture.{rowsOf}
-use Rattle.explain.specs.Verdict.{Judging, refusedBy, sizeFaults, faults, most, Right}
+use Rattle.explain.specs.Verdict.{Judging, refusedBy, sizeFaults, judgeFaults, most, Right}
 use Rattle.explain.specs.Trace.{scanned}
 use Rattle.explain.proofs.Exact.{scan-right}
 
@@ -24,7 +24,7 @@ size-fits size h =
 
 module _ (n mask w : ℕ) (bytes : List ℕ) where
   abbrev refusal : ℕ
-  refusal = firstOf (faults n mask (length bytes))
+  refusal = firstOf (judgeFaults n mask (length bytes))
 
   refused-right : (refusal ≡ 0 → ⊥) → Right n mask w bytes (refusedBy refusal)
   unfolding Right

@@ -18,7 +18,7 @@ use Rattle.request.specs.declared.Request.{Request}
 use Rattle.request.proofs.Order.{or-true}
 use Rattle.controller.specs.Settings.{high}
 use Rattle.controller.specs.Rules.{request, noRequest, rankOfRequest}
-use Rattle.controller.specs.Rules.{isCommand, held, isClear, kept, given, taken, standing, condition, conditionsFrom}
+use Rattle.controller.specs.Rules.{isCommand, held, isClear, kept, given, replacesHeld, inForce, condition, conditionsFrom}
 use Rattle.controller.specs.Rules.{isFailOrDegrade, isWait, entersWait, waiting, candidates, localRequest, same}
 use Rattle.controller.specs.Refusals.{conditionsFit, channelFits}
 use Rattle.controller.specs.Step.{protection}
@@ -41,7 +41,7 @@ module _ (mask w left : ℕ) (last : Request) where
   holdOf command = kept command (held last)
 
   abbrev pub standsOf : ℕ → ℕ → Request
-  standsOf command c = standing (taken (holdOf command) (given command c)) (holdOf command) (given command c)
+  standsOf command c = inForce (replacesHeld (holdOf command) (given command c)) (holdOf command) (given command c)
 
   abbrev pub nowOf : ℕ → ℕ
   nowOf command = waitNow (isClear command) (entersWait last) (isWait (last .code)) w left
@@ -233,7 +233,7 @@ module _ (mask w left : ℕ) (last : Request) where
 
   -- by its number and its channel
   is-given : (n k c : ℕ) (x : Request) → k ≤ 4 → channelFits n k c ≡ true → isClear k ≡ false → given k c ≡ x
-      → taken (held last) x ≡ true → Given n x
+      → replacesHeld (held last) x ≡ true → Given n x
   is-given n k c x known fits other new takes =
       record { command = k; channel = c; known = known; fits = fits; stands = rw (other, new, takes) }
 

@@ -16,9 +16,9 @@ use Rattle.controller.specs.Step.{waitOf}
 use Rattle.controller.specs.declared.Controller.{Controller}
 use Rattle.explain.specs.Capture.{Row}
 use Rattle.explain.specs.Explained.{Cause, stepped, Sends}
-use Rattle.explain.specs.Trace.{idled, live, opens, localIn, hiddenIn, recordAfter, standing, next}
+use Rattle.explain.specs.Trace.{idled, live, opens, localIn, hiddenIn, recordAfter, acceptedByte, next}
 use Rattle.explain.specs.declared.Records.{Records}
-use Rattle.explain.proofs.Reached.{Able, Reached, far-standing, sends-reached, reached-sends}
+use Rattle.explain.proofs.Reached.{Able, Reached, far-accepted, sends-reached, reached-sends}
 
 -- the records that the flags leave open
 abbrev pub In : Records → Controller → Type 0
@@ -61,8 +61,8 @@ module _ (d : Records) (r : Row) where
   after k1 k2 = recordAfter base now k1 k2 (r .sentK1)
 
   -- the records behind the row, where the received pair is usable, and where it is not
-  abbrev taken : Records
-  taken = record { controller = after (r .k1) (r .k2); heard = opened (r .k1); idle = hidden }
+  abbrev replaced : Records
+  replaced = record { controller = after (r .k1) (r .k2); heard = opened (r .k1); idle = hidden }
 
   abbrev kept : Records
   kept =
@@ -83,9 +83,9 @@ module _ (d : Records) (r : Row) where
   unfolding next
   next-lost e = (rw e, rw e)
 
-  next-taken : sendable ≡ true → usable ≡ true → next d r ≡ taken
+  next-replaced : sendable ≡ true → usable ≡ true → next d r ≡ replaced
   unfolding next
-  next-taken e f = rw (e, f, and-true (opened (r .k1)))
+  next-replaced e f = rw (e, f, and-true (opened (r .k1)))
 
   next-kept : sendable ≡ true → usable ≡ false → next d r ≡ kept
   unfolding next
@@ -103,12 +103,12 @@ module _ (d : Records) (r : Row) where
         → u ≡ after idleK1 idleK2 → From u
     by-hidden k1 k2 i fits h u k = bring (holding k1 k2) i u (fits, inl (h, k))
 
-    -- by the pair that stands, where k1 k2 was accepted before
-    by-standing : (k1 k2 : ℕ) → In d (holding k1 k2) → (t : Bool) → usable ≡ t → sendable ≡ true → (u : Controller)
-        → opened (standing t (r .k1) k1) ≡ true → u ≡ after (standing t (r .k1) k1) (standing t (r .k2) k2) → From u
-    by-standing k1 k2 i t f fits u h k =
+    -- by the pair that is then accepted, where k1 k2 was before
+    by-accepted : (k1 k2 : ℕ) → In d (holding k1 k2) → (t : Bool) → usable ≡ t → sendable ≡ true → (u : Controller)
+        → opened (acceptedByte t (r .k1) k1) ≡ true → u ≡ after (acceptedByte t (r .k1) k1) (acceptedByte t (r .k2) k2) → From u
+    by-accepted k1 k2 i t f fits u h k =
         let s = holding k1 k2 in
-        let stood = far-standing s r (good s i) t f in
+        let stood = far-accepted s r (good s i) t f in
         bring s i u (fits, inr (rw (stood .0, stood .1) (h, k)))
 
     -- some record is left
@@ -117,49 +117,49 @@ module _ (d : Records) (r : Row) where
         ⊎-elim (λ e. from (base .k1) (base .k2) (inl (e, refl))) (λ e. from idleK1 idleK2 (inr (e, refl)))
         (or-true (d .heard) (d .idle) alive)
 
-    into-taken : live d ≡ true → sendable ≡ true → usable ≡ true → (u : Controller) → In taken u → From u
-    into-taken alive fits f u (inl (h, k)) = from-some alive (λ k1 k2 i. by-standing k1 k2 i true f fits u h k)
-    into-taken alive fits f u (inr (h, k)) = from-some alive (λ k1 k2 i. by-hidden k1 k2 i fits h u k)
+    into-replaced : live d ≡ true → sendable ≡ true → usable ≡ true → (u : Controller) → In replaced u → From u
+    into-replaced alive fits f u (inl (h, k)) = from-some alive (λ k1 k2 i. by-accepted k1 k2 i true f fits u h k)
+    into-replaced alive fits f u (inr (h, k)) = from-some alive (λ k1 k2 i. by-hidden k1 k2 i fits h u k)
 
     into-kept : live d ≡ true → sendable ≡ true → usable ≡ false → (u : Controller) → In kept u → From u
     into-kept alive fits f u (inl (h, k)) =
         let both = and-eq-true-iff (opened (base .k1)) (d .heard) .0 h in
-        by-standing (base .k1) (base .k2) (inl (both .1, refl)) false f fits u (both .0) k
+        by-accepted (base .k1) (base .k2) (inl (both .1, refl)) false f fits u (both .0) k
     into-kept alive fits f u (inr (h, k)) =
         ⊎-elim
         (λ e.
         let both = and-eq-true-iff (opened idleK1) (d .idle) .0 e in
-        by-standing idleK1 idleK2 (inr (both .1, refl)) false f fits u (both .0) k)
+        by-accepted idleK1 idleK2 (inr (both .1, refl)) false f fits u (both .0) k)
         (λ e. from-some alive (λ k1 k2 i. by-hidden k1 k2 i fits e u k)) (or-true (opened idleK1 && d .idle) hidden h)
 
     -- what a row that is sent leaves, by whether the received pair is usable
     abbrev behind : Bool → Records
-    behind t = if t then taken else kept
+    behind t = if t then replaced else kept
 
     hidden-in : (t : Bool) (u : Controller) → hidden ≡ true → u ≡ after idleK1 idleK2 → In (behind t) u
     hidden-in true u h k = inr (h, k)
     hidden-in false u h k = inr (rw h (or-right (opened idleK1 && d .idle) true refl), k)
 
     -- the flag that a record is left by goes on
-    heard-in : (t : Bool) (u : Controller) → d .heard ≡ true → opened (standing t (r .k1) (base .k1)) ≡ true
-        → u ≡ after (standing t (r .k1) (base .k1)) (standing t (r .k2) (base .k2)) → In (behind t) u
+    heard-in : (t : Bool) (u : Controller) → d .heard ≡ true → opened (acceptedByte t (r .k1) (base .k1)) ≡ true
+        → u ≡ after (acceptedByte t (r .k1) (base .k1)) (acceptedByte t (r .k2) (base .k2)) → In (behind t) u
     heard-in true u e h k = inl (h, k)
     heard-in false u e h k = inl (rw (e, h), k)
 
-    idle-in : (t : Bool) (u : Controller) → d .idle ≡ true → opened (standing t (r .k1) idleK1) ≡ true
-        → u ≡ after (standing t (r .k1) idleK1) (standing t (r .k2) idleK2) → In (behind t) u
+    idle-in : (t : Bool) (u : Controller) → d .idle ≡ true → opened (acceptedByte t (r .k1) idleK1) ≡ true
+        → u ≡ after (acceptedByte t (r .k1) idleK1) (acceptedByte t (r .k2) idleK2) → In (behind t) u
     idle-in true u e h k = inl (h, k)
     idle-in false u e h k = inr (rw (e, h), k)
 
     -- what is known of a record behind the row, where k1 k2 was accepted before
     read-off : (k1 k2 : ℕ) (s : Controller) → In d s → s ≡ holding k1 k2 → (c : Cause) → Sends (stepped s c r) r
         → (u : Controller) → u ≡ stepped s c r .controller → (t : Bool) → usable ≡ t
-        → (opened (standing t (r .k1) k1) ≡ true → u ≡ after (standing t (r .k1) k1) (standing t (r .k2) k2)
+        → (opened (acceptedByte t (r .k1) k1) ≡ true → u ≡ after (acceptedByte t (r .k1) k1) (acceptedByte t (r .k2) k2)
         → In (behind t) u)
         → (sendable ≡ true) × In (behind t) u
     read-off k1 k2 s i is c sends u k t f stays =
         let reached = rw (← k) at (sends-reached s r (good s i) c sends) in
-        let stood = far-standing s r (good s i) t (rw is f) in (
+        let stood = far-accepted s r (good s i) t (rw is f) in (
           rw is at (reached .0),
           ⊎-elim (λ h. hidden-in t u (rw is at (h .0)) (rw is at (h .1)))
               (λ h. stays (rw (stood .0, is) at (h .0)) (rw (stood .0, stood .1, is) at (h .1))) (reached .1),
@@ -176,7 +176,7 @@ module _ (d : Records) (r : Row) where
     next-in u alive = (forward sendable usable refl refl, λ from. backward usable refl from)
       where
         forward : (a b : Bool) → sendable ≡ a → usable ≡ b → In (next d r) u → From u
-        forward true true e f i = into-taken alive e f u (subst (λ (m : Records). In m u) (next-taken e f) i)
+        forward true true e f i = into-replaced alive e f u (subst (λ (m : Records). In m u) (next-replaced e f) i)
         forward true false e f i = into-kept alive e f u (subst (λ (m : Records). In m u) (next-kept e f) i)
         forward false b e f i =
             let none = next-lost e in
@@ -184,6 +184,6 @@ module _ (d : Records) (r : Row) where
 
         backward : (b : Bool) → usable ≡ b → From u → In (next d r) u
         backward true f from =
-            let (fits, i) = out-of true f u from in subst (λ (m : Records). In m u) (sym (next-taken fits f)) i
+            let (fits, i) = out-of true f u from in subst (λ (m : Records). In m u) (sym (next-replaced fits f)) i
         backward false f from =
             let (fits, i) = out-of false f u from in subst (λ (m : Records). In m u) (sym (next-kept fits f)) i

@@ -25,11 +25,11 @@ use Rattle.controller.specs.declared.Outcome.{Outcome}
 use Rattle.controller.proofs.Inputs.{WellFormed, well-formed}
 use Rattle.controller.proofs.Sendable.{Sendable, sendable-room}
 use Rattle.controller.proofs.Sending.{sent-sendable}
-use Rattle.controller.proofs.Keeping.{k1-back, not-refused, step-keeps, step-taken}
+use Rattle.controller.proofs.Keeping.{k1-back, not-refused, step-keeps, step-unrefused}
 use Rattle.explain.specs.Capture.{Row}
 use Rattle.explain.specs.Explained.{Cause, stepped, Sends}
 use Rattle.explain.specs.Cause.{commanded, unseen, answers}
-use Rattle.explain.specs.Trace.{secondFits, opens, localIn, hiddenIn, recordAfter, standing}
+use Rattle.explain.specs.Trace.{secondFits, opens, localIn, hiddenIn, recordAfter, acceptedByte}
 use Rattle.explain.proofs.Local.{wait-unclear, nearOf}
 use Rattle.explain.proofs.OneStep.{Caused, one-step, one-hidden-step}
 
@@ -42,7 +42,7 @@ pub record Able (s : Controller) : Type 0 where
 pub able-next : (s : Controller) (cause : Cause) (r : Row) → Able s → Sends (stepped s cause r) r
     → Able (stepped s cause r .controller)
 able-next s cause r a sends =
-    let k = step-keeps s (r .k1) (r .k2) (cause .conditions) (cause .command) (cause .channel) (sends .taken) .0 in
+    let k = step-keeps s (r .k1) (r .k2) (cause .conditions) (cause .command) (cause .channel) (sends .not-refused) .0 in
     record {
       fits = rw (k .sections) (a .fits);
       mask-fits = rw (k .sections, k .priorities) (a .mask-fits);
@@ -109,7 +109,7 @@ module _ (s : Controller) (r : Row) (able : Able s) where
   abbrev now0 : ℕ
   now0 = waitOf s last 0
 
-  -- the records after the row: with 00 08 accepted under a failed section 0, or with the pair that stands
+  -- the records after the row: with 00 08 accepted under a failed section 0, or with the pair that is accepted otherwise
   abbrev pub Reached : Controller → Type 0
   Reached u =
       (carries requests (s .n) (x .code) (x .channel) ≡ true)
@@ -117,30 +117,30 @@ module _ (s : Controller) (r : Row) (able : Able s) where
       ⊎ ((opens (farK1 false) x (r .sentK2) (localIn s x) ≡ true)
       × (u ≡ recordAfter s now0 (farK1 false) (farK2 false) (r .sentK1))))
 
-  -- the pair that stands is the received one if it is usable, and else the one before
+  -- that pair is the received one if it is usable, and else the one before
   far-parts : (t : Bool) → eqb (mark (s .n) (r .k1) (r .k2)) 0 ≡ t
-      → (farK1 false ≡ standing t (r .k1) (s .k1))
-      × (farK2 false ≡ standing t (r .k2) (s .k2))
+      → (farK1 false ≡ acceptedByte t (r .k1) (s .k1))
+      × (farK2 false ≡ acceptedByte t (r .k2) (s .k2))
       × (far false ≡ asked (farK1 false))
   unfolding accepting
   far-parts t e =
       subst
       (λ (b : Bool).
-      (farK1 false ≡ standing b (r .k1) (s .k1))
-      × (farK2 false ≡ standing b (r .k2) (s .k2))
+      (farK1 false ≡ acceptedByte b (r .k1) (s .k1))
+      × (farK2 false ≡ acceptedByte b (r .k2) (s .k2))
       × (far false ≡ asked (farK1 false))) e (go (eqb (mark (s .n) (r .k1) (r .k2)) 0))
     where
       go : (t : Bool) →
           let pair = if t then accepted (r .k1) (r .k2) 0 else accepted (s .k1) (s .k2) (mark (s .n) (r .k1) (r .k2)) in
-          (pair .k1 ≡ standing t (r .k1) (s .k1))
-          × (pair .k2 ≡ standing t (r .k2) (s .k2))
+          (pair .k1 ≡ acceptedByte t (r .k1) (s .k1))
+          × (pair .k2 ≡ acceptedByte t (r .k2) (s .k2))
           × (pair .request ≡ asked (pair .k1))
       go true = (refl, refl, refl)
       go false = (refl, refl, refl)
 
-  pub far-standing : (t : Bool) → eqb (mark (s .n) (r .k1) (r .k2)) 0 ≡ t
-      → (farK1 false ≡ standing t (r .k1) (s .k1)) × (farK2 false ≡ standing t (r .k2) (s .k2))
-  far-standing t e = let parts = far-parts t e in (parts .0, parts .1)
+  pub far-accepted : (t : Bool) → eqb (mark (s .n) (r .k1) (r .k2)) 0 ≡ t
+      → (farK1 false ≡ acceptedByte t (r .k1) (s .k1)) × (farK2 false ≡ acceptedByte t (r .k2) (s .k2))
+  far-accepted t e = let parts = far-parts t e in (parts .0, parts .1)
 
   far-asked : (failed : Bool) → far failed ≡ asked (farK1 failed)
   unfolding accepting
@@ -157,10 +157,10 @@ module _ (s : Controller) (r : Row) (able : Able s) where
     well : WellFormed s (cause .conditions) (cause .command) (cause .channel)
     well =
         well-formed s (cause .conditions) (cause .command) (cause .channel)
-        (not-refused s (r .k1) (r .k2) (cause .conditions) (cause .command) (cause .channel) (sends .taken) .0)
+        (not-refused s (r .k1) (r .k2) (cause .conditions) (cause .command) (cause .channel) (sends .not-refused) .0)
 
     answered : Answered cause failed (stepped s cause r)
-    answered = step-is cause failed refl (sends .taken)
+    answered = step-is cause failed refl (sends .not-refused)
 
     sendable : Sendable (s .n) (s .mask) (now cause) sent
     sendable = sent-sendable s (cause .conditions) (cause .command) (cause .channel) well failed (r .k1) (r .k2)
@@ -188,7 +188,7 @@ module _ (s : Controller) (r : Row) (able : Able s) where
     usable : mark (s .n) (r .sentK1) (r .sentK2) ≡ 0
     usable =
         let k =
-        step-keeps s (r .k1) (r .k2) (cause .conditions) (cause .command) (cause .channel) (sends .taken) .1 .usable in
+        step-keeps s (r .k1) (r .k2) (cause .conditions) (cause .command) (cause .channel) (sends .not-refused) .1 .usable in
         rw (sends .first, sends .second) at k
 
     carried : carries requests (s .n) (x .code) (x .channel) ≡ true
@@ -292,18 +292,18 @@ module _ (s : Controller) (r : Row) (able : Able s) where
       cause : Cause
       cause = record { conditions = by .conditions; command = by .command; channel = by .channel }
 
-      taken : stepped s cause r .refusal ≡ 0
-      taken =
+      goes : stepped s cause r .refusal ≡ 0
+      goes =
           let f = by .fits in
           let number = eq-eqb (length (by .conditions)) (s .n + 1) (f .number) in
-          step-taken s (r .k1) (r .k2) (by .conditions) (by .command) (by .channel) (able .fits) (able .mask-fits)
+          step-unrefused s (r .k1) (r .k2) (by .conditions) (by .command) (by .channel) (able .fits) (able .mask-fits)
           (able .accepts) (rw (number, f .conditions-fit, le-leb (by .command) 4 (f .command-fits), f .channel-fits))
 
       sends : Sends (stepped s cause r) r
       sends =
-          let answered = step-is cause t (by .protects) taken in
+          let answered = step-is cause t (by .protects) goes in
           record {
-            taken = taken;
+            not-refused = goes;
             first = answered .first ∙ ap k1Of (by .sends) ∙ k1-whole (r .sentK1);
             second =
                 answered .second

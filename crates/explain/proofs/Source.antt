@@ -14,7 +14,7 @@ use Rattle.request.specs.Order.{byRank, OneOf}
 use Rattle.request.specs.declared.Request.{Request}
 use Rattle.request.proofs.Order.{or-right}
 use Rattle.controller.specs.Settings.{high}
-use Rattle.controller.specs.Rules.{noRequest, rankOfRequest, isCommand, held, isClear, given, taken, failCode, degradeCode}
+use Rattle.controller.specs.Rules.{noRequest, rankOfRequest, isCommand, held, isClear, given, replacesHeld, failCode, degradeCode}
 use Rattle.controller.specs.Rules.{condition, conditionsFrom, waiting, same}
 use Rattle.controller.specs.Step.{protection}
 use Rattle.controller.proofs.Candidates.{candidate-split, local-one, local-above}
@@ -47,14 +47,14 @@ module _ (mask w left : ℕ) (last : Request) where
       new : Request
       new = given command c
 
-      chosen : (t : Bool) → taken (held last) new ≡ t → ByCommand (if t then new else held last)
+      chosen : (t : Bool) → replacesHeld (held last) new ≡ t → ByCommand (if t then new else held last)
       chosen true e = ⊎-elim inl (λ is. inr (commanded-of (held last) new is (inr e))) (given-cases command c)
       chosen false e =
           ⊎-elim inl (λ is. inr (commanded-of (held last) (held last) is (inl refl))) (held-cases last)
 
       go : (t : Bool) → isClear command ≡ t → ByCommand (standsOf mask w left last command c)
       go true e = let one : command ≡ 1 = eqb-true command 1 e in inl (rw one)
-      go false e = rw e (chosen (taken (held last) new) refl)
+      go false e = rw e (chosen (replacesHeld (held last) new) refl)
 
   abbrev BySection : Request → Type 0
   BySection x = (x ≡ noRequest) ⊎ (conditioned mask x ≡ true)

@@ -1,28 +1,32 @@
 -- The front door: what is proved of the judge, each theorem in full with the line that cites its proof.
-use mathlib.Core.Path.{_≡_}
+use mathlib.Core.Path.{_≡_, refl}
 use mathlib.Core.Bool.{true, false}
 use mathlib.Core.List.{List}
-use mathlib.Core.Logic.{_↔_}
+use mathlib.Core.Logic.{_↔_, _⊎_}
 use Prim.Native.Nat.{ℕ, _+_, _<_}
 use lib.ListN.{length, take}
 use Rattle.basics.specs.First.{firstOf}
 use Rattle.basics.proofs.One.{OneAnswer}
 use Rattle.pair.specs.Request.{requests, carries}
+use Rattle.pair.specs.Coder.{sectionsFit}
 use Rattle.request.specs.declared.Request.{Request}
+use Rattle.controller.specs.Settings.{maskFits, fresh}
 use Rattle.controller.specs.Rules.{noRequest}
+use Rattle.controller.specs.Refusals.{acceptable}
 use Rattle.explain.specs.Capture.{Row, rowsOf}
 use Rattle.controller.specs.declared.Controller.{Controller}
 use Rattle.explain.specs.Explained.{Cause, stepped, Sends, Explained}
-use Rattle.explain.specs.Verdict.{Judging, explainedAt, unexplainedAt, refusedBy, faults, Right}
-use Rattle.explain.specs.Lines.{lines, Hold}
-use Rattle.explain.specs.Trace.{live, next}
+use Rattle.explain.specs.Verdict.{Judging, explainedAt, unexplainedAt, refusedBy, judgeFaults, Right}
+use Rattle.explain.specs.Lines.{lines, AllRight}
+use Rattle.explain.specs.Trace.{idled, start, live, next}
 use Rattle.explain.specs.declared.Records.{Records}
 use Rattle.explain.proofs.OneStep.{Caused, Open, Hidden, one-step, one-hidden-step}
-use Rattle.explain.proofs.Reached.{Able}
+use Rattle.explain.proofs.Reached.{Able, able-next}
 use Rattle.explain.proofs.Possible.{In, next-in}
-use Rattle.explain.proofs.Exact.{explained-prefix, right-one, told-one, explained-exact, unexplained-exact, first-within}
+use Rattle.explain.proofs.Exact.{explained-prefix, begin-able, right-one, told-one, explained-exact}
+use Rattle.explain.proofs.Exact.{unexplained-exact, first-within}
 use Rattle.explain.proofs.Judged.{right-some, right-refused}
-use Rattle.explain.proofs.Computed.{lines-hold}
+use Rattle.explain.proofs.Computed.{lines-all-right}
 use Rattle.explain.proofs.judge.Kinds as judge-kinds
 use Rattle.explain.proofs.judge.Reads as judge-fn
 use Rattle.explain.proofs.judge.Statement as judge-statement
@@ -44,19 +48,19 @@ judge-complete = right-some
 
 -- A capture that is refused has the first refusal for its answer.
 refused-exact : (n mask w : ℕ) (bytes : List ℕ) (j : Judging) →
-    let refusal = firstOf (faults n mask (length bytes)) in
+    let refusal = firstOf (judgeFaults n mask (length bytes)) in
     Right n mask w bytes j → (refusal ≡ 0 → ⊥) → j ≡ refusedBy refusal
 refused-exact = right-refused
 
 -- One that is not refused: explained is answered exactly if some sequence explains all steps, and unexplained i exactly if
 -- some sequence explains the first i and none the first i + 1.
 verdict-exact : (n mask w : ℕ) (bytes : List ℕ) (j : Judging) → Right n mask w bytes j
-    → firstOf (faults n mask (length bytes)) ≡ 0
+    → firstOf (judgeFaults n mask (length bytes)) ≡ 0
     → (j ≡ explainedAt (length (rowsOf bytes))) ↔ Explained n mask w (rowsOf bytes)
 verdict-exact = explained-exact
 
 first-exact : (n mask w : ℕ) (bytes : List ℕ) (j : Judging) → Right n mask w bytes j
-    → firstOf (faults n mask (length bytes)) ≡ 0 → (i : ℕ)
+    → firstOf (judgeFaults n mask (length bytes)) ≡ 0 → (i : ℕ)
     → (j ≡ unexplainedAt i)
     ↔ (Explained n mask w (take i (rowsOf bytes)) × (Explained n mask w (take (i + 1) (rowsOf bytes)) → ⊥))
 first-exact = unexplained-exact
@@ -83,12 +87,36 @@ hidden-step-exact : (n mask w left : ℕ) (last hold after x : Request)
     → Hidden n mask w left last hold after x ↔ Caused n mask w left last true noRequest hold after x
 hidden-step-exact = one-hidden-step
 
--- Behind each row the two flags leave open exactly the records that some cause leads to from the records left open before it.
+-- The scan keeps a record and two flags. `In d s`: they leave the record s open, with the last usable pair as accepted or
+-- with 00 08.
+open-means : (d : Records) (s : Controller)
+    → In d s ↔ (((d .heard ≡ true) × (s ≡ d .controller)) ⊎ ((d .idle ≡ true) × (s ≡ idled (d .controller))))
+open-means d s = (λ i. i, λ i. i)
+
+-- `Able s`: no step from the record s has one of refusals 1 to 3.
+able-means : (s : Controller)
+    → Able s ↔ ((sectionsFit (s .n) ≡ true) × (maskFits (s .n) (s .mask) ≡ true) × (acceptable s ≡ true))
+able-means s = (
+  λ a. (a .fits, a .mask-fits, a .accepts),
+  λ h. record { fits = h .0; mask-fits = h .1; accepts = h .2 },
+)
+
+-- One row. If some record was left open before it, and every such record is able, then the flags behind it leave open exactly
+-- the records that some cause leads to from those before it, in a step that sends the row's bytes.
 records-exact : (d : Records) (r : Row) → ((s : Controller) → In d s → Able s) → (u : Controller) → live d ≡ true
     → In (next d r) u
     ↔ ((s : Controller) × (c : Cause) × In d s × Sends (stepped s c r) r × (u ≡ stepped s c r .controller))
 records-exact = next-in
 
+-- Both premises hold at the start of a scan, and stay: the scan goes on while it is `live`, and a step from an able record
+-- answers an able one.
+start-able : (n mask w : ℕ) → sectionsFit n ≡ true → maskFits n mask ≡ true
+    → (live (start (fresh n mask w)) ≡ true) × ((s : Controller) → In (start (fresh n mask w)) s → Able s)
+start-able n mask w fits mask-fits = (refl, begin-able n mask w fits mask-fits)
+
+able-kept : (s : Controller) (c : Cause) (r : Row) → Able s → Sends (stepped s c r) r → Able (stepped s c r .controller)
+able-kept = able-next
+
 -- The judge lines of document 01.
-lines-right : Hold lines
-lines-right = lines-hold
+lines-right : AllRight lines
+lines-right = lines-all-right

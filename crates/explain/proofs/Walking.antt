@@ -8,8 +8,8 @@ use native.Mathlib.Omega.{arith}
 use lib.ListN.{length, getD, drop, drop-of-length-le}
 use lib.Seq.{drop-cons}
 use Rattle.explain.specs.Capture.{Row, row, rowsOf}
-use Rattle.explain.specs.Verdict.{explainedAt, unexplainedAt, most}
-use Rattle.explain.specs.Scan.{scanFrom}
+use Rattle.explain.specs.Verdict.{most}
+use Rattle.explain.specs.Scan.{all, first, scanFrom}
 use Rattle.explain.specs.Trace.{live, next, verdictOf}
 use Rattle.explain.specs.declared.Records.{Records}
 
@@ -93,10 +93,10 @@ module _ {bytes : List ℕ} {begin possible : Records} {step at : ℕ} (w : Walk
       }
 
   pub walk-stop : at < length bytes → {new : Records} → new ≡ next possible here → live new ≡ false
-      → unexplainedAt step ≡ verdictOf (scanFrom next live 0 begin (rowsOf bytes))
+      → verdictOf (first step) ≡ verdictOf (scanFrom next live 0 begin (rowsOf bytes))
   walk-stop h {new} is e =
       let stops : live (next possible here) ≡ false = rw is at e in
       rw stops at (step-here h)
 
-  pub walk-done : length bytes ≤ at → explainedAt step ≡ verdictOf (scanFrom next live 0 begin (rowsOf bytes))
+  pub walk-done : length bytes ≤ at → verdictOf (all step) ≡ verdictOf (scanFrom next live 0 begin (rowsOf bytes))
   walk-done h = rw (drop-of-length-le bytes h) at (w .remains)

@@ -2,14 +2,18 @@
 use mathlib.Core.Bool.{Bool, not, _&&_, _||_}
 use Prim.Native.Nat.{ℕ}
 use lib.Dec.{leb, eqb}
-use Rattle.pair.specs.Request.{rankOf}
+use Rattle.pair.specs.Request.{lockoutCode, failHighCode, reverseCode, nothingCode, rankOf}
 use Rattle.request.specs.Order.{mayWin, byRank}
 use Rattle.request.specs.declared.Request.{Request}
-use Rattle.controller.specs.Rules.{rankOfRequest, taken, condition, isWait, same}
+use Rattle.controller.specs.Rules.{rankOfRequest, replacesHeld, condition, isWait, same}
 
--- the command that is held afterwards was held before, or took the place of the one that was
+-- a command was held before, or replaces the one that was
+abbrev pub follows : Request → Request → Bool
+follows hold after = same after hold || replacesHeld hold after
+
+-- a command is held afterwards, and follows
 abbrev pub commanded : Request → Request → Bool
-commanded hold after = not (eqb (after .code) 0b0000) && (same after hold || taken hold after)
+commanded hold after = not (eqb (after .code) nothingCode) && follows hold after
 
 -- a degraded section asks for it, or a failed one but section 0
 abbrev pub conditioned : ℕ → Request → Bool
@@ -23,14 +27,14 @@ waited now last x = isWait (x .code) && eqb (x .channel) (last .channel) && leb 
 
 -- some cause makes it the local request, section 0 not failed: none, by a command, by a condition, by the wait
 unfoldable pub arises : ℕ → Bool → ℕ → Request → Request → Bool
-arises mask command now last x = eqb (x .code) 0b0000 || command || conditioned mask x || waited now last x
+arises mask command now last x = eqb (x .code) nothingCode || command || conditioned mask x || waited now last x
 
 -- some cause makes it the local request, section 0 failed: SF0, or LO above it
 unfoldable pub unseen : Bool → Request → Bool
-unseen command x = eqb (x .channel) 0 && (eqb (x .code) 0b1101 || eqb (x .code) 0b1111 && command)
+unseen command x = eqb (x .channel) 0 && (eqb (x .code) failHighCode || eqb (x .code) lockoutCode && command)
 
 -- it is RR to what the far end asks for, or a local request that the far end does not beat
 unfoldable pub answers : Request → Request → Bool → Bool
 answers far x local =
-    eqb (x .code) 0b0010 && mayWin (rankOfRequest far) && eqb (far .channel) (x .channel)
+    eqb (x .code) reverseCode && mayWin (rankOfRequest far) && eqb (far .channel) (x .channel)
     || local && not (byRank rankOf far x)

@@ -20,7 +20,7 @@ stepped s cause r = step s (r .k1) (r .k2) (cause .conditions) (cause .command) 
 
 -- the step is not refused, and sends precisely the bytes of the row
 pub record Sends (o : Outcome) (r : Row) : Type 0 where
-  pub taken : o .refusal ≡ 0
+  pub not-refused : o .refusal ≡ 0
   pub first : o .k1 ≡ r .sentK1
   pub second : o .k2 ≡ r .sentK2
 

@@ -4,7 +4,7 @@ pub mod Capture
 pub mod Explained
 pub mod Verdict
 pub mod Lines
--- Not to be believed: what the judge computes, as the contracts inside the crate cite it. That it is exact is proved.
+-- Need not be believed: what the judge computes, as the contracts inside the crate cite it. That it is exact is proved.
 pub mod Cause
 pub mod Trace
 pub mod Scan

@@ -16,6 +16,6 @@ lines =
     ∷ []
 
 -- each capture of the table has its answer, with n = 2, mask 0, W = 3
-abbrev pub Hold : List Line → Type 0
-Hold [] = Unit {0}
-Hold ((bytes is j) ∷ rest) = Right 2 0 3 bytes j × Hold rest
+abbrev pub AllRight : List Line → Type 0
+AllRight [] = Unit {0}
+AllRight ((bytes is j) ∷ rest) = Right 2 0 3 bytes j × AllRight rest

@@ -78,9 +78,9 @@ seenIn s sentK1 sentK2 =
       hidden = hiddenIn s x sentK2;
     }
 
--- a byte of the pair that stands: the received one's, if that is usable
-abbrev pub standing : Bool → ℕ → ℕ → ℕ
-standing usable received before = if usable then received else before
+-- a byte of the accepted pair: the received one's, if that is usable, else the one before
+abbrev pub acceptedByte : Bool → ℕ → ℕ → ℕ
+acceptedByte usable received before = if usable then received else before
 
 -- the sent K1 stands in the table; and with a usable pair received that pair is accepted, unless section 0 has failed
 unfoldable pub next : Records → Row → Records
@@ -90,9 +90,9 @@ next d r =
     let x = seen .request in
     let carried = carries requests (s .n) (x .code) (x .channel) in
     let usable = eqb (mark (s .n) (r .k1) (r .k2)) 0 in
-    let k1 = standing usable (r .k1) (s .k1) in
+    let k1 = acceptedByte usable (r .k1) (s .k1) in
     record {
-      controller = recordAfter s (seen .now) k1 (standing usable (r .k2) (s .k2)) (r .sentK1);
+      controller = recordAfter s (seen .now) k1 (acceptedByte usable (r .k2) (s .k2)) (r .sentK1);
       heard = carried && opens k1 x (r .sentK2) (seen .local) && (usable || d .heard);
       idle = carried && not usable && opens idleK1 x (r .sentK2) (seen .local) && d .idle || carried && seen .hidden;
     }

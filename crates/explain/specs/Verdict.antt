@@ -45,8 +45,8 @@ abbrev pub sizeFaults : ℕ → List Check
 sizeFaults size = (8 when not (eqb (size % 4) 0)) ∷ (9 when ltb most size) ∷ []
 
 -- refusals 1, 2, 8, 9, in this order
-abbrev pub faults : ℕ → ℕ → ℕ → List Check
-faults n mask size = settingsFaults n mask ++ sizeFaults size
+abbrev pub judgeFaults : ℕ → ℕ → ℕ → List Check
+judgeFaults n mask size = settingsFaults n mask ++ sizeFaults size
 
 -- explained with the number of steps; or unexplained with the number, from 0, of the first step such that the steps up to
 -- and with it have no explanation
@@ -61,5 +61,5 @@ Found n mask w rows j =
 -- the right answer for a capture
 unfoldable pub Right : ℕ → ℕ → ℕ → List ℕ → Judging → Type 0
 Right n mask w bytes j =
-    let refusal = firstOf (faults n mask (length bytes)) in
+    let refusal = firstOf (judgeFaults n mask (length bytes)) in
     if eqb refusal 0 then Found n mask w (rowsOf bytes) j else (j ≡ refusedBy refusal)

@@ -18,7 +18,8 @@ use request::Request;
 use request::bridge;
 ghost use Prim.Native.Nat.{_≤_, _%_};
 ghost use Rattle.explain.specs.Capture.{row};
-ghost use Rattle.explain.specs.Trace.{secondFits, opens, recordAfter, seenIn, standing, next, scanned};
+ghost use Rattle.explain.specs.Scan.{first};
+ghost use Rattle.explain.specs.Trace.{live, secondFits, opens, recordAfter, seenIn, acceptedByte, next, verdictOf, scanned};
 ghost use Rattle.explain.specs.Verdict.{told, most};
 ghost use lib.ListN.{length};
 ghost use mathlib.Core.Path.{_≡_};
@@ -71,8 +72,8 @@ fn seen_in(s: Controller, sent1: u8, sent2: u8) -> Seen
     }
 }
 
-fn standing(usable: bool, received: u8, before: u8) -> u8
-    ensures { λ r. ⌜ r ≡ standing usable received before ⌝ }
+fn accepted_byte(usable: bool, received: u8, before: u8) -> u8
+    ensures { λ r. ⌜ r ≡ acceptedByte usable received before ⌝ }
 {
     if usable { received } else { before }
 }
@@ -87,15 +88,28 @@ pub(crate) fn next(d: Records, k1: u8, k2: u8, sent1: u8, sent2: u8) -> Records
     let x = seen.request;
     let carried = carries(s.n, x.code, x.channel);
     let usable = usable(s.n, k1, k2);
-    let far = standing(usable, k1, s.k1);
+    let far = accepted_byte(usable, k1, s.k1);
     let opened = carried & opens(far, x, sent2, seen.local);
     let opened_idle = carried & !usable & opens(Controller::IDLE_K1, x, sent2, seen.local);
-    let controller = record_after(s, seen.now, far, standing(usable, k2, s.k2), sent1);
+    let controller = record_after(s, seen.now, far, accepted_byte(usable, k2, s.k2), sent1);
     Records {
         controller,
         heard: opened & (usable | d.heard),
         idle: (opened_idle & d.idle) | (carried & seen.hidden),
     }
+}
+
+fn live(d: Records) -> bool
+    ensures { λ r. ⌜ r ≡ live d ⌝ }
+{
+    d.heard | d.idle
+}
+
+// Nothing is left open behind the step, so that it is the first up to which there is no explanation.
+fn unexplained_at(step: u16) -> Verdict
+    ensures { λ r. ⌜ told r ≡ verdictOf (first step) ⌝ }
+{
+    Verdict::Unexplained(step)
 }
 
 pub(crate) fn scan(s: Controller, capture: &[u8]) -> Verdict
@@ -117,9 +131,8 @@ pub(crate) fn scan(s: Controller, capture: &[u8]) -> Verdict
             capture[at + 2],
             capture[at + 3],
         );
-        let live = possible.heard | possible.idle;
-        if !live {
-            return Verdict::Unexplained(step);
+        if !live(possible) {
+            return unexplained_at(step);
         }
         step += 1;
         at += 4;

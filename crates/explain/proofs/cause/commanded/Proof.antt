@@ -1,10 +1,11 @@
 -- `commanded` meets its contract: a command that is sent is held afterwards.
 use mathlib.Core.Path.{_≡_, refl}
-use mathlib.Core.Bool.{Bool, true, false, not, _&&_, _||_}
+use mathlib.Core.Bool.{Bool, true, false, not, _&&_}
 use lib.Dec.{eqb}
+use Rattle.pair.specs.Request.{nothingCode}
 use Rattle.request.specs.declared.Request.{Request}
-use Rattle.controller.specs.Rules.{isCommand, held, same, taken}
-use Rattle.explain.specs.Cause.{commanded}
+use Rattle.controller.specs.Rules.{isCommand, held}
+use Rattle.explain.specs.Cause.{follows, commanded}
 use borrow.Author.Needs.{needs}
 use Rattle.explain.proofs.cause.commanded.Statement.{statement}
 use Rattle.explain.proofs.cause.commanded.Tie as tie
@@ -23,11 +24,11 @@ replaces-requires c κs = search needs
 
 -- a request that is no command is held as none, and then nothing else is looked at
 sent-held : (hold x : Request)
-    → not (eqb (held x .code) 0b0000) && (same x hold || taken hold x) ≡ commanded hold (held x)
+    → not (eqb (held x .code) nothingCode) && follows hold x ≡ commanded hold (held x)
 sent-held hold x = go (isCommand (x .code)) refl
   where
     go : (t : Bool) → isCommand (x .code) ≡ t
-        → not (eqb (held x .code) 0b0000) && (same x hold || taken hold x) ≡ commanded hold (held x)
+        → not (eqb (held x .code) nothingCode) && follows hold x ≡ commanded hold (held x)
     go true e = rw e
     go false e = rw e
 

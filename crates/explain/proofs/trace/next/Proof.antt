@@ -12,8 +12,8 @@ carries-requires c κs = search needs
 usable-requires : tie.Need-usable-requires
 usable-requires c κs = search needs
 
-standing-requires : tie.Need-standing-requires
-standing-requires c κs = search needs
+accepted-byte-requires : tie.Need-accepted-byte-requires
+accepted-byte-requires c κs = search needs
 
 opens-requires : tie.Need-opens-requires
 opens-requires c κs = search needs
@@ -21,8 +21,8 @@ opens-requires c κs = search needs
 opens-requires-2 : tie.Need-opens-requires-2
 opens-requires-2 c κs = search needs
 
-standing-requires-2 : tie.Need-standing-requires-2
-standing-requires-2 c κs = search needs
+accepted-byte-requires-2 : tie.Need-accepted-byte-requires-2
+accepted-byte-requires-2 c κs = search needs
 
 record-after-requires : tie.Need-record-after-requires
 record-after-requires c κs = search needs
@@ -33,10 +33,10 @@ returns c =
     let usable = c .before .before .before .before .before .before .before .before in
     rw (
       c .before .before .before .record-after .ensures,
-      c .before .before .before .before .standing2 .ensures,
+      c .before .before .before .before .accepted-byte2 .ensures,
       c .before .before .before .before .before .opens2 .ensures,
       c .before .before .before .before .before .before .opens .ensures,
-      c .before .before .before .before .before .before .before .standing .ensures,
+      c .before .before .before .before .before .before .before .accepted-byte .ensures,
       usable .usable .ensures,
       usable .before .carries .ensures,
       usable .before .before .before .seen-in .ensures,
@@ -49,9 +49,9 @@ next-spec =
     seen-in-requires
     carries-requires
     usable-requires
-    standing-requires
+    accepted-byte-requires
     opens-requires
     opens-requires-2
-    standing-requires-2
+    accepted-byte-requires-2
     record-after-requires
     returns)

@@ -3,7 +3,7 @@ use lib.ListN.{length}
 use Prim.Native.Nat.{_-_}
 use borrow.Author.Needs.{needs}
 use borrow.Author.Tests.{not-true, not-false}
-use mathlib.Core.Bool.{_||_}
+use mathlib.Core.Path.{sym, _∙_}
 use Rattle.explain.proofs.Walking.{Walk, walk-start, whole-step, few-steps, walk-next, walk-stop, walk-done}
 use Rattle.explain.proofs.trace.scan.Statement.{statement}
 use Rattle.explain.proofs.trace.scan.Tie as tie
@@ -57,11 +57,19 @@ shared-slice-read-next-4 c =
 next-requires : tie.Need-next-requires Inv-loop μ-loop
 next-requires c κs = search needs
 
+live-requires : tie.Need-live-requires Inv-loop μ-loop
+live-requires c κs = search needs
+
+unexplained-at-requires : tie.Need-unexplained-at-requires Inv-loop μ-loop
+unexplained-at-requires c κs = search needs
+
 returns : tie.Need-returns Inv-loop μ-loop
 returns c =
-    let new = c .before .before .next in
-    walk-stop (c .before .before .before .before .before .before .before .before .loop .inv) (c .before .before .before .before .before .before .before .loop-test .taken) (new .ensures)
-    (not-true (new .result .heard || new .result .idle) (c .if1 .taken))
+    let seen = c .before .before in
+    let row = seen .before .before .before .before .before .before in
+    c .unexplained-at .ensures
+    ∙ walk-stop (row .before .loop .inv) (row .loop-test .taken) (seen .before .next .ensures)
+    (sym (seen .live .ensures) ∙ not-true (seen .live .result) (c .before .if1 .taken))
 
 add-step : tie.Need-add-step Inv-loop μ-loop
 add-step c =
@@ -80,9 +88,10 @@ loop-less c =
 
 loop-again : tie.Need-loop-again Inv-loop μ-loop
 loop-again c =
-    let new = c .before .before .next in
-    walk-next (c .before .before .before .before .before .before .before .before .loop .inv) (c .before .before .before .before .before .before .before .loop-test .taken) (new .ensures)
-    (not-false (new .result .heard || new .result .idle) (c .if1 .left))
+    let seen = c .before in
+    let row = seen .before .before .before .before .before .before in
+    walk-next (row .before .loop .inv) (row .loop-test .taken) (seen .before .next .ensures)
+    (sym (seen .live .ensures) ∙ not-false (seen .live .result) (c .if1 .left))
 
 returns-2 : tie.Need-returns-2 Inv-loop μ-loop
 returns-2 c = walk-done (c .before .loop .inv) (c .loop-test .left)
@@ -102,6 +111,8 @@ scan-spec =
     add-next-3
     shared-slice-read-next-4
     next-requires
+    live-requires
+    unexplained-at-requires
     returns
     add-step
     add-at
