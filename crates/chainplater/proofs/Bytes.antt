@@ -1,4 +1,5 @@
--- Laws behind the front door: records in bytes and back, a refused step's bytes, flags, and the judge's one answer.
+-- Laws behind the front door: records in bytes and back, a refused step's bytes, a refused write's, flags, and the judge's
+-- one answer.
 use mathlib.Core.Path.{_≡_, refl, sym, ap, _∙_}
 use mathlib.Core.Bool.{Bool, true, false, and-false}
 use mathlib.Core.List.{List, [], _∷_, _++_}
@@ -7,6 +8,7 @@ use native.Mathlib.Omega.{arith}
 use lib.ListN.{length, getD, replicate}
 use lib.Seq.{take-all}
 use borrow.Author.Tests.{lt-ltb}
+use Rattle.basics.specs.Bytes.{fourBytes}
 use Rattle.basics.proofs.Fields.{fields-back, fields-again}
 use Rattle.pair.specs.Coder.{sectionsFit, encoding}
 use Rattle.controller.specs.Refusals.{refusal}
@@ -16,6 +18,9 @@ use Rattle.controller.specs.declared.Outcome.{Outcome}
 use Rattle.controller.proofs.Keeping.{step-refused}
 use Rattle.explain.specs.Verdict.{Judging}
 use Rattle.explain.proofs.Exact.{right-one}
+use Rattle.book.specs.Writer.{writeRefusal, Wrote, writing, output}
+use Rattle.book.specs.declared.Contents.{Contents}
+use Rattle.book.proofs.Books.{refused-writing}
 use Rattle.chainplater.specs.Coder.{flag, encodingBytes}
 use Rattle.chainplater.specs.Record.{layout, fields, named, recordIn, recordBytes, outcomeBytes}
 use Rattle.chainplater.specs.Verdict.{judgingBytes, Judged}
@@ -50,6 +55,19 @@ module _ (bytes : List ℕ) (long : length bytes ≡ 10) (small : (i : ℕ) → 
         let number = refusal (recordIn bytes) conditions command c in
         rw (step-refused (recordIn bytes) k1 k2 conditions command c (λ z. some (none-refused z)))
         (ap (λ (l : List ℕ). number ∷ l ++ replicate 6 0) record-again)
+
+-- a refused write leaves the output, and says a size of 0
+module _ (contents : Contents) (bodies out : List ℕ) where
+  unrefused : writeRefusal contents (length bodies) (length out) ≡ 0
+      → writing contents (length bodies) (length out) .refusal ≡ 0
+  unfolding writing
+  unrefused z = rw z
+
+  pub refused-write : let wrote = writing contents (length bodies) (length out) in
+      (wrote .refusal ≡ 0 → ⊥) → (output contents bodies out ≡ out) × (fourBytes (wrote .bytes) ≡ replicate 4 0)
+  refused-write some =
+      let left = refused-writing contents bodies out (λ z. some (unrefused z)) in
+      (left .1, ap (λ (wrote : Wrote). fourBytes (wrote .bytes)) (left .0))
 
 -- a flag is taken as it is answered, and one above 1 is refused
 module _ (n code channel bridged : ℕ) where

@@ -14,13 +14,14 @@ use Rattle.controller.specs.declared.Outcome.{Outcome}
 use Rattle.explain.specs.Verdict.{Judging}
 use Rattle.book.specs.Format.{contentsIn, bytesOf}
 use Rattle.book.specs.Reader.{reading}
+use Rattle.book.specs.Writer.{writing, output}
 use Rattle.book.proofs.Lists.{length-listed}
 use Rattle.book.proofs.Trips.{contents-back, read-places}
 use Rattle.chainplater.specs.Coder.{flag, decodedBytes, encodedBytes, encodingBytes}
 use Rattle.chainplater.specs.Record.{recordIn, recordBytes, outcomeBytes}
 use Rattle.chainplater.specs.Verdict.{judgingBytes}
 use Rattle.chainplater.proofs.Bytes.{record-size, outcome-size, record-back, record-again, refused-bytes}
-use Rattle.chainplater.proofs.Bytes.{flag-taken, flag-refused, same-refusal, same-bytes}
+use Rattle.chainplater.proofs.Bytes.{refused-write, flag-taken, flag-refused, same-refusal, same-bytes}
 use Rattle.chainplater.proofs.chainplater_fresh.Kinds as fresh-kinds
 use Rattle.chainplater.proofs.chainplater_fresh.Reads as fresh-fn
 use Rattle.chainplater.proofs.chainplater_fresh.Statement as fresh-statement
@@ -156,6 +157,13 @@ step-refused : (bytes : List ℕ) → length bytes ≡ 10 → ((i : ℕ) → get
     let o = step (recordIn bytes) k1 k2 conditions command c in
     (o .refusal ≡ 0 → ⊥) → outcomeBytes o ≡ o .refusal ∷ bytes ++ replicate 6 0
 step-refused = refused-bytes
+
+-- A refused write leaves the output as it was, and a size of zeros.
+write-refused : (contents bodies out : List ℕ) →
+    let wrote = writing (contentsIn contents) (length bodies) (length out) in
+    (wrote .refusal ≡ 0 → ⊥)
+    → (output (contentsIn contents) bodies out ≡ out) × (fourBytes (wrote .bytes) ≡ replicate 4 0)
+write-refused contents = refused-write (contentsIn contents)
 
 -- The contents that are read are the contents that are written, if their bytes are handed on.
 contents-right : (book : List ℕ) → contentsIn (bytesOf (reading book .contents)) ≡ reading book .contents
