@@ -7,6 +7,7 @@ use book::body;
 use book::read;
 use explain::Verdict;
 use explain::judge;
+ghost use Prim.Native.Nat.{_≤_};
 
 fn put_field(page: &mut [u8], at: usize, v: u64) -> usize {
     let at = put_number(page, at, v);
@@ -36,14 +37,16 @@ fn put_capture(page: &mut [u8], at: usize, book: &[u8], number: usize, e: Entry)
     put_verdict(page, at, verdict)
 }
 
-// The count of a book that was read is at most 64 (refusal 23), so the remainder changes no number.
-fn put_captures(page: &mut [u8], book: &[u8], contents: Contents) -> usize {
+// A book that is read has at most 64 captures (refusal 23).
+fn put_captures(page: &mut [u8], book: &[u8], contents: Contents) -> usize
+    requires { ⌜ contents .count ≤ 64 ⌝ }
+{
     let count = contents.count;
     let entries = contents.entries;
     let mut at = put(page, 0, b"capture sections steps verdict at\n");
     let mut i = 0;
     while i < count as usize {
-        let e = entries[i % 64];
+        let e = entries[i];
         at = put_capture(page, at, book, i, e);
         i += 1;
     }

@@ -7,10 +7,10 @@ use Rattle.judge.proofs.table.put_captures.Statement.{statement}
 use Rattle.judge.proofs.table.put_captures.Tie as tie
 
 abbrev Inv-loop : tie.InvT-loop
-Inv-loop page₀ book count entries at₀ i₀ page at i = (length page ≡ length page₀) × (i ≤ 256)
+Inv-loop page₀ book count entries at₀ i₀ page at i = (length page ≡ length page₀) × (i ≤ 64)
 
 abbrev μ-loop : tie.MeasureT-loop
-μ-loop page₀ book count entries at₀ i₀ page at i = 256 - i
+μ-loop page₀ book count entries at₀ i₀ page at i = 64 - i
 
 slice-aggregate-put : tie.Need-slice-aggregate-put Inv-loop μ-loop
 slice-aggregate-put c = search needs
