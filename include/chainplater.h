@@ -17,7 +17,8 @@
  *   10  no pair codes that record            29  the output has too little room
  *                                            30  the bodies are not as long as the contents say
  *
- * Where several apply, the first in this order is returned; for chainplater_write the order is 23, 30, 20, 29.
+ * Where several apply, one is returned: each function says below which refusals it has and in which order it asks for
+ * them.
  *
  * Memory. Every pointer points to as many bytes as its parameter says, also where a length is 0: it is then any pointer
  * but NULL. Memory that a function writes to overlaps no other memory that it is lent. Memory that is `const` is
@@ -47,7 +48,7 @@ extern "C" {
 
 /*
  * A fresh controller for n sections, of which those in the mask (bit c - 1 for section c) are of high priority, with a
- * wait to restore of `wait` steps. Refusals 1, 2.
+ * wait to restore of `wait` steps. Refusals 1, 2, in this order.
  * record: the record; zeros where refused.
  */
 uint8_t chainplater_fresh(uint8_t n, uint16_t mask, uint16_t wait, uint8_t record[CHAINPLATER_RECORD]);
@@ -60,7 +61,7 @@ uint8_t chainplater_fresh(uint8_t n, uint16_t mask, uint16_t wait, uint8_t recor
 uint8_t chainplater_decode(uint8_t n, uint8_t k1, uint8_t k2, uint8_t out[CHAINPLATER_DECODED]);
 
 /*
- * The pair of bytes that decodes to what is given. Refusals 1 and 10; a `remote` above 1 is refusal 10.
+ * The pair of bytes that decodes to what is given. Refusals 1, 10, in this order; a `remote` above 1 is refusal 10.
  * out: 0 K1, 1 K2; zeros where refused.
  */
 uint8_t chainplater_encode(uint8_t n, uint8_t code, uint8_t channel, uint8_t bridged, uint8_t remote,
@@ -69,7 +70,7 @@ uint8_t chainplater_encode(uint8_t n, uint8_t code, uint8_t channel, uint8_t bri
 /*
  * One step: the controller of that record receives k1 and k2, sees the conditions of sections 0 to n (0 good, 1
  * degraded, 2 failed; `count` is n + 1) and is given a command (0 none, 1 clear, 2 lockout, 3 forced switch, 4 manual
- * switch) for a channel (0 for the first three, 1 to n for the other two). Refusals 1 to 7.
+ * switch) for a channel (0 for the first three, 1 to n for the other two). Refusals 1 to 7, in this order.
  * out: 0 the refusal, 1 to 10 the record after the step, 11 K1 sent, 12 K2 sent, 13 channel bridged, 14 channel
  * selected, 15 mark of the received pair, 16 fate of the command (0 none was given, 1 taken, 2 denied). Where
  * refused: the refusal, the record as it was given, and zeros.
@@ -81,7 +82,7 @@ uint8_t chainplater_step(const uint8_t record[CHAINPLATER_RECORD], uint8_t k1, u
 /*
  * The judge. A capture is four bytes a step: K1 and K2 received, K1 and K2 sent. It is explained if there are section
  * conditions and commands, one set a step, with which a fresh controller of these settings, receiving those bytes, sends
- * precisely these. Refusals 1, 2, 8, 9.
+ * precisely these. Refusals 1, 2, 8, 9, in this order.
  * out: 0 the verdict (1 explained, 2 unexplained, 0 refused), 1 and 2 the number of steps if explained, the first
  * step, counted from 0, up to which there is no explanation if not, 0 where refused.
  */
@@ -89,7 +90,8 @@ uint8_t chainplater_judge(uint8_t n, uint16_t mask, uint16_t wait, const uint8_t
                           uint8_t out[CHAINPLATER_VERDICT]);
 
 /*
- * The contents of a book. Refusals 20 to 28.
+ * The contents of a book. Refusals 20 to 24, in this order; then entry by entry 25, 26, 27, so that 27 of one entry comes
+ * before 25 of the next; then 28.
  * out: 0 the count of captures, then 64 places of 12 bytes: n (1), spare (1), mask (2), W (2), offset of the body in
  * the book (4), steps (2). The places past the count are zeros; all is 0 where refused. A body is four bytes a
  * step, from its offset.
@@ -98,7 +100,8 @@ uint8_t chainplater_read(const uint8_t *book, size_t length, uint8_t out[CHAINPL
 
 /*
  * The book of some contents, laid out as chainplater_read answers them, and of the bodies joined in that order. The
- * spare and offset bytes of the places, and the places past the count, are not looked at. Refusals 23, 30, 20, 29.
+ * spare and offset bytes of the places, and the places past the count, are not looked at. Refusals 23, 30, 20, 29, in
+ * this order.
  * out: the book at its start, the bytes behind it as they were; refused: all as it was.
  * size: the number of bytes of the book (4); zeros where refused.
  */
