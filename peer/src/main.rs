@@ -23,8 +23,12 @@
 //!
 //! The proved library is linked, and called with the same arguments as this
 //! reading: `compare` looks for differences in what they answer and in all they
-//! are lent, `bench` for how long they take. `peer/run` builds the library and does
-//! both; a package that was built without it has the other commands only.
+//! are lent, `bench` for how long they take. A package that was built without it
+//! has the other commands only.
+//!
+//! `peer/run` builds the library and makes all of these comparisons. It also runs
+//! the tests of this package, holds the examples to what is expected of them, and
+//! ends with `bench`.
 //!
 //! Where the two readings differ, neither has precedence: the paper decides which
 //! one is wrong.

@@ -17,19 +17,16 @@ const EXPLAINED: u8 = 1;
 
 pub fn rows(library: &impl Door) -> io::Result<Vec<Row>> {
     let mut rows = Vec::new();
-    for (captures, steps) in works() {
-        let [Capture { settings, .. }, ..] = captures[..] else {
-            continue;
-        };
-        let name = format!("judge, n = {}, {steps} steps", settings.n);
+    for (n, captures, steps) in works() {
+        let name = format!("judge, n = {n}, {steps} steps");
         let work = Work(name, Unit::Step, captures.len() * steps);
         rows.push(work.measure(|| judge(library, &captures), || judge(&Peer, &captures))?);
     }
     Ok(rows)
 }
 
-/// The captures of each row, and the steps of one of them.
-fn works() -> Vec<(Vec<Capture>, usize)> {
+/// The sections and captures of each row, and the steps of one of them.
+fn works() -> Vec<(u8, Vec<Capture>, usize)> {
     let mut draws = Draws::from_seed(SEED);
     let mut works = Vec::new();
     for (settings, (count, steps)) in SETTINGS
@@ -37,7 +34,7 @@ fn works() -> Vec<(Vec<Capture>, usize)> {
         .flat_map(|settings| LENGTHS.map(|length| (settings, length)))
     {
         let drawn = (0..count).map(|_| runs::draw(&mut draws, COMMON, settings, steps));
-        works.push((drawn.collect(), steps));
+        works.push((settings.n, drawn.collect(), steps));
     }
     works
 }
@@ -55,7 +52,10 @@ fn judge(door: &impl Door, captures: &[Capture]) -> usize {
 
 #[cfg(test)]
 pub fn check(door: &impl Door) {
-    for (captures, steps) in works() {
+    let works = works();
+    assert_eq!(works.len(), SETTINGS.len() * LENGTHS.len());
+    for (_, captures, steps) in works {
+        assert_eq!(captures.len() * steps, 16_384);
         assert_eq!(judge(door, &captures), captures.len());
         assert!(captures.iter().all(|capture| capture.rows.len() == steps));
     }

@@ -402,13 +402,18 @@ fn what_was_written_is_read_and_what_was_read_is_written() {
 fn a_damaged_book_is_refused_or_written_again() {
     let mut draws = Draws(2);
     let mut seen = std::collections::BTreeSet::new();
+    let mut taken = 0;
     for _ in 0..4_000 {
         let mut book = draws.book();
         draws.damage(&mut book);
         match read(&book) {
-            Ok(contents) => assert_eq!(written_again(&book, &contents), book),
+            Ok(contents) => {
+                assert_eq!(written_again(&book, &contents), book);
+                taken += 1;
+            }
             Err(refusal) => drop(seen.insert(refusal.number())),
         }
     }
     assert!(seen.into_iter().eq(21..=28), "damage of every kind");
+    assert!((1_000..2_000).contains(&taken), "{taken}");
 }

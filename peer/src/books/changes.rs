@@ -118,6 +118,7 @@ mod tests {
     #[test]
     fn what_is_replaced_is_a_pair_sent() {
         let mut draws = Draws::from_seed(9);
+        let mut replaced = 0;
         for steps in 1..40 {
             let before = runs::draw_of_any_settings(&mut draws, COMMON, steps);
             let mut after = before.clone();
@@ -126,8 +127,12 @@ mod tests {
             assert!(pairs
                 .clone()
                 .all(|(before, after)| before[..2] == after[..2]));
-            assert!(pairs.filter(|(before, after)| before != after).count() <= 1);
+            let others = pairs.filter(|(before, after)| before != after).count();
+            assert!(others <= 1);
+            replaced += others;
         }
+        // Now and then it is by the same pair.
+        assert!(replaced >= 30, "{replaced}");
     }
 
     #[test]

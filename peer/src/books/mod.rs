@@ -22,9 +22,11 @@ use report::Report;
 use std::io;
 use std::path::Path;
 
-/// The script at the root. It runs `target/bin/judge`, by an emulator where the
-/// machine is not the one that this is compiled for.
-pub const USUAL_PROGRAM: &str = "judge";
+/// The proved program itself, which `rt check judge` builds, on the machine that it
+/// is compiled for; elsewhere another file has to be named. The scripts at the root
+/// are not compared here: they look for changes of the source on every run, and say
+/// so, which for thousands of books would take many minutes.
+pub const USUAL_PROGRAM: &str = "target/bin/judge";
 
 /// Books of one sort.
 struct Group {
@@ -74,8 +76,7 @@ pub struct Finding {
 
 /// Compares this reading with a program. The error is that of running it.
 pub fn compare(program: &Path) -> io::Result<Finding> {
-    // On its first use the script builds the program, and says so. That is done
-    // before anything is compared, and by one process.
+    // A program that cannot be run shows here, before any book is made.
     process::run(program, &[])?;
     let jobs = jobs();
     let mut report = Report::new(&GROUPS, &jobs);

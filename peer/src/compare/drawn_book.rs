@@ -172,27 +172,33 @@ mod tests {
     fn every_refusal_of_the_reader_is_drawn() {
         let mut bits = Bits::from_seeds(1, 1);
         let mut refusals = BTreeSet::new();
+        let mut sound = 0;
         for _ in 0..4_000 {
             let (book, damaged) = draw(&mut bits);
             let read = book::read(&book);
             assert!(damaged || read.is_ok());
+            sound += usize::from(!damaged);
             refusals.extend(read.err().map(book::Refusal::number));
         }
         assert!(refusals.into_iter().eq(20..=28));
+        assert!((1_300..1_700).contains(&sound), "{sound}");
     }
 
     #[test]
     fn every_refusal_of_the_writer_is_drawn() {
         let mut bits = Bits::from_seeds(1, 2);
         let mut refusals = BTreeSet::new();
+        let mut sound = 0;
         for _ in 0..2_000 {
             let order = draw_order(&mut bits);
             let mut out = vec![0; order.room];
             let refusal = Peer.write(&order.contents, &order.bodies, &mut out, &mut [0; SIZE]);
             assert!(order.damaged || refusal == 0);
+            sound += usize::from(!order.damaged);
             refusals.insert(refusal);
         }
         assert!(refusals.into_iter().eq([0, 20, 23, 29, 30]));
+        assert!((900..1_100).contains(&sound), "{sound}");
     }
 
     #[test]

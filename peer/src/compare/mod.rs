@@ -7,6 +7,7 @@ mod captures;
 mod coder;
 mod crew;
 mod drawn_book;
+mod handed;
 mod lent;
 mod report;
 mod spoilt;

@@ -1,7 +1,7 @@
 //! What a step may be handed: mostly what it takes, with something spoilt in half
 //! of all cases, so that every refusal of a step comes up.
 
-use super::steps::{Handed, MOST_CONDITIONS};
+use super::handed::{Handed, MOST_CONDITIONS};
 use crate::controller::Record;
 use crate::door::{record_bytes, RECORD};
 use crate::draws::Bits;

@@ -1,6 +1,7 @@
 //! The step: from drawn records under drawn causes, and in walks that go on from
 //! what was answered.
 
+use super::handed::{Handed, MOST_CONDITIONS};
 use super::lent::{Lent, Memory, Part};
 use super::spoilt;
 use super::tally::{both, hex, Both, Tally};
@@ -12,9 +13,6 @@ pub const PARTS: usize = 128;
 const DRAWN_STEPS: usize = 50_000;
 const WALKS: usize = 250;
 const STEPS_OF_A_WALK: usize = 200;
-
-/// More conditions than any group has.
-pub const MOST_CONDITIONS: usize = 20;
 
 /// Kinds of the walks: the codes of what was sent.
 pub const SENT: [&str; 16] = [
@@ -38,15 +36,6 @@ impl Memory for StepMemory {
             ("out", self.out.part()),
         ]
     }
-}
-
-/// What a step is handed besides memory.
-#[derive(Clone, Copy)]
-pub struct Handed {
-    pub received: [u8; 2],
-    pub count: usize,
-    pub command: u8,
-    pub channel: u8,
 }
 
 pub fn drawn(library: &dyn Door, part: usize) -> Tally {

@@ -109,6 +109,7 @@ fn a_wrong_byte_of_each_function_is_noticed() {
 fn what_is_not_wrong_has_no_differences() {
     for name in ["fresh", "decode", "step, walks", "read", "write"] {
         let tally = part_of(name, &Fake { wrong: "" });
+        assert!(tally.calls >= 1_000, "{name}: {}", tally.calls);
         assert_eq!(tally.differences, 0, "{name}");
     }
 }
@@ -117,6 +118,7 @@ fn what_is_not_wrong_has_no_differences() {
 #[test]
 fn a_walk_ends_with_its_first_difference() {
     let tally = part_of("step, walks", &Fake { wrong: "step" });
+    assert!(tally.calls >= 100, "{}", tally.calls);
     assert_eq!(tally.calls, tally.differences);
 }
 

@@ -270,6 +270,7 @@ fn explained_are_just_the_captures_of_two_causes() {
                 known.insert([one.k1, one.k2, two.k1, two.k2]);
             }
         }
+        let mut found = 0;
         for [k1, k2, last_k1, last_k2] in sent_twice() {
             let rows = [
                 [first[0], first[1], k1, k2],
@@ -278,7 +279,9 @@ fn explained_are_just_the_captures_of_two_causes() {
             let explained = explain(start, &rows, &causes) == Verdict::Explained(2);
             let expected = known.contains(&[k1, k2, last_k1, last_k2]);
             assert_eq!(explained, expected, "{rows:02X?}");
+            found += usize::from(explained);
         }
+        assert_eq!(found, known.len(), "each of them is tried");
     }
 }
 
@@ -300,12 +303,14 @@ fn sent_twice() -> impl Iterator<Item = Row> {
 fn the_steps_before_the_first_unexplained_are_explained() {
     let mut draws = Draws::from_seed(7);
     let causes = causes(2);
+    let mut unexplained = 0;
     for _ in 0..60 {
         let start = controller::fresh(2, 1, 2).unwrap();
         let rows = draw_rows(&mut draws, start, &causes);
         let Verdict::Unexplained(step) = explain(start, &rows, &causes) else {
             continue;
         };
+        unexplained += 1;
         for length in 0..=rows.len() {
             let expected = if length <= step {
                 Verdict::Explained(length)
@@ -315,6 +320,7 @@ fn the_steps_before_the_first_unexplained_are_explained() {
             assert_eq!(explain(start, &rows[..length], &causes), expected);
         }
     }
+    assert!((30..50).contains(&unexplained), "{unexplained}");
 }
 
 /// The books that the repository shows, each with what is expected of it.

@@ -156,22 +156,27 @@ mod tests {
     /// for what was drawn, and only a command's channel is ever drawn wrong.
     #[test]
     fn only_a_channel_past_the_group_is_refused() {
+        let mut refused = 0;
         over_all_walks(|before, given, answer| {
             if given.channel > before.n {
                 assert_eq!(numbers(answer), [7, 0, 0, 0, 0, 0, 0]);
                 assert_eq!(answer.record, before);
+                refused += 1;
             } else {
                 assert_eq!(answer.refusal, 0);
             }
         });
+        assert!((5_000..7_000).contains(&refused), "{refused}");
     }
 
     #[test]
     fn what_is_sent_can_be_read_at_the_other_end() {
+        let mut taken = 0;
         over_all_walks(|before, _, answer| {
             if answer.refusal != 0 {
                 return;
             }
+            taken += 1;
             let Ok(Received::Usable(read)) = decode(before.n, answer.k1, answer.k2) else {
                 panic!("{answer:?}");
             };
@@ -179,6 +184,7 @@ mod tests {
             assert_eq!(read.bridged, answer.bridge);
             assert_eq!(answer.record.sent, answer.k1);
         });
+        assert!(taken >= 270_000, "{taken}");
     }
 
     /// A comparison over walks is worth no more than what the walks come by.
