@@ -1,5 +1,8 @@
 -- Laws for the crates above; Theorems is the front door.
 pub mod Candidates
+mod Apart
+mod Sections
+mod Asking
 pub mod Usability
 pub mod Conditions
 pub mod Inputs

@@ -6,3 +6,5 @@ pub mod Refusals
 pub mod Step
 pub mod Run
 pub mod Sequences
+-- and, inside the crate alone, what stands behind the local request
+pub mod Asking

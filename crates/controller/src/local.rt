@@ -5,11 +5,13 @@ use crate::codes::REVERSE;
 use crate::section::condition;
 use request::Request;
 use request::better;
-ghost use Prim.Native.Nat.{_≤_};
-ghost use Rattle.controller.specs.Rules.{conditionsFrom, localRequest, decided};
+ghost use Prim.Native.Nat.{_≤_, _<_};
+ghost use Rattle.controller.specs.Asking.{OfKind, asks, Ranked};
+ghost use Rattle.controller.specs.Rules.{isCommand, isWait, localRequest, decided};
 ghost use Rattle.pair.specs.Request.{rankOf};
-ghost use Rattle.request.specs.Order.{byRank, betterOf, best};
+ghost use Rattle.request.specs.Order.{byRank};
 ghost use lib.ListN.{length, drop};
+ghost use mathlib.Core.List.{_∷_};
 ghost use mathlib.Core.Path.{_≡_};
 
 fn beats(a: Request, b: Request) -> bool
@@ -18,27 +20,38 @@ fn beats(a: Request, b: Request) -> bool
     better(rank_of(a), a.channel, rank_of(b), b.channel)
 }
 
-fn better_of(a: Request, b: Request) -> Request
-    ensures { λ r. ⌜ r ≡ betterOf (byRank rankOf) a b ⌝ }
+// What section c asks for; the condition of section 0 is handed in apart.
+fn section_asks(mask: u16, protection: u8, conditions: &[u8], c: u8) -> Request
+    requires { ⌜ c < length (now conditions) ⌝ }
+    ensures { λ r. ⌜ r ≡ asks mask (protection ∷ drop 1 (now (conditions .entry))) c ⌝ }
 {
-    if beats(a, b) { a } else { b }
-}
-
-// The better of what was found before and the sections' conditions, section 1 first.
-fn best_section(mask: u16, conditions: &[u8], first: Request) -> Request
-    requires { ⌜ length (now conditions) ≤ 16 ⌝ }
-    ensures { λ r. ⌜ r ≡ best (byRank rankOf) first (conditionsFrom mask 1 (drop 1 (now (conditions .entry)))) ⌝ }
-{
-    let mut found = first;
-    let mut c: u8 = 1;
-    while (c as usize) < conditions.len() {
-        let x = conditions[c as usize];
-        found = better_of(condition(mask, c, x), found);
-        c += 1;
+    if c == 0 {
+        condition(mask, 0, protection)
+    } else {
+        condition(mask, c, conditions[c as usize])
     }
-    found
 }
 
+// The rank of what each section asks for, worked out once a step, and the number of sections up to the last that asks.
+fn section_ranks(mask: u16, protection: u8, conditions: &[u8], ranks: &mut [u8]) -> u8
+    requires { ⌜ (1 ≤ length (now conditions)) × (length (now conditions) ≤ 16) × (length (now ranks) ≡ 16) ⌝ }
+    ensures { λ r. ⌜ Ranked mask (protection ∷ drop 1 (now (conditions .entry))) (now (ranks .exit)) r ⌝ }
+{
+    let mut asking: u8 = 0;
+    let mut c: u8 = 0;
+    while (c as usize) < conditions.len() {
+        let rank = rank_of(section_asks(mask, protection, conditions, c));
+        ranks[c as usize] = rank;
+        c += 1;
+        if 0 < rank {
+            asking = c;
+        }
+    }
+    asking
+}
+
+// Asked for rank by rank from the top, and left at the first hit, which within a rank is the lowest section. The command and
+// the wait may come before the sections: each rank is one code's alone, so no two of the three kinds share a rank.
 pub(crate) fn local_request(
     mask: u16,
     protection: u8,
@@ -46,13 +59,35 @@ pub(crate) fn local_request(
     command: Request,
     wait: Request,
 ) -> Request
-    requires { ⌜ length (now conditions) ≤ 16 ⌝ }
+    requires { ⌜ (1 ≤ length (now conditions)) × (length (now conditions) ≤ 16) × OfKind isCommand command × OfKind isWait wait ⌝ }
     ensures { λ r. ⌜ r ≡ localRequest mask protection (drop 1 (now (conditions .entry))) command wait ⌝ }
 {
-    let first = better_of(command, NO_REQUEST);
-    let second = better_of(condition(mask, 0, protection), first);
-    let third = best_section(mask, conditions, second);
-    better_of(wait, third)
+    let mut ranks = [0u8; 16];
+    let asking = section_ranks(mask, protection, conditions, &mut ranks);
+    let command_rank = rank_of(command);
+    let wait_rank = rank_of(wait);
+    let mut found = NO_REQUEST;
+    let mut rank: u8 = 10;
+    'ranks: while 0 < rank {
+        if command_rank == rank {
+            found = command;
+            break;
+        }
+        if wait_rank == rank {
+            found = wait;
+            break;
+        }
+        let mut c: u8 = 0;
+        while c < asking {
+            if ranks[c as usize] == rank {
+                found = section_asks(mask, protection, conditions, c);
+                break 'ranks;
+            }
+            c += 1;
+        }
+        rank -= 1;
+    }
+    found
 }
 
 // RR answers a better request of the far end.

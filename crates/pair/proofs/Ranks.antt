@@ -1,12 +1,13 @@
 -- A request has the rank of each row that it stands in, and a usable pair's stands in one.
-use mathlib.Core.Path.{_≡_, refl, sym, _∙_}
+use mathlib.Core.Path.{_≡_, refl, sym, ap, _∙_}
 use mathlib.Core.Bool.{Bool, true, false, not, _||_, and-eq-true-iff, false≢true}
 use mathlib.Core.List.{List, [], _∷_}
 use Prim.Native.Nat.{ℕ, suc, _≤_, _<_, zero-le, suc-le-suc}
 use native.Mathlib.Omega.{arith}
-use lib.Dec.{eqb, leb, lit<}
+use lib.Dec.{eqb, leb, ltb, lit<}
 use lib.ListN.{length, getD}
-use borrow.Author.Tests.{eqb-true, leb-true}
+use borrow.Author.Tests.{eqb-true, leb-true, lt-ltb}
+use Rattle.basics.specs.Choice.{if_then_else_}
 use Rattle.basics.proofs.Table.{every, at-entry}
 use Rattle.pair.specs.Request.{Channels, zero-only, sections, zero-and-sections, Row, row, requests}
 use Rattle.pair.specs.Request.{among, stands, carries}
@@ -70,6 +71,47 @@ carried-row (r ∷ rest) n code c other h = go (stands r n code c) refl (carried
         → (i : ℕ) × (i < length (r ∷ rest)) × (stands (getD (r ∷ rest) i other) n code c ≡ true)
     go true e ih = (0, suc-le-suc zero-le, e)
     go false e ih = let found = ih (rw e at h) in (suc (found .0), suc-le-suc (found .1), found .2)
+
+-- a rule that holds at rank 0, and which each row keeps, holds of every code and its rank
+by-row : (rule : ℕ → ℕ → Bool) → ((code : ℕ) → rule code 0 ≡ true)
+    → (rows : List Row) → every (λ (r : Row). rule (r .code) (r .rank)) rows ≡ true
+    → (class : Class) (code : ℕ) → rule code (rankIn rows class code) ≡ true
+unfolding rankIn
+by-row rule none [] whole class code = none code
+by-row rule none (r ∷ rest) whole class code =
+    let both = and-eq-true-iff (rule (r .code) (r .rank)) (every (λ (r : Row). rule (r .code) (r .rank)) rest) .0 whole in
+    go (eqb code (r .code)) (includes (r .channels) class) refl refl (both .0) (by-row rule none rest (both .1) class code)
+  where
+    go : (same held : Bool) → eqb code (r .code) ≡ same → includes (r .channels) class ≡ held
+        → rule (r .code) (r .rank) ≡ true → rule code (rankIn rest class code) ≡ true
+        → rule code (rankIn (r ∷ rest) class code) ≡ true
+    go true true e f here later = rw (e, f) (rw (eqb-true code (r .code) e) here)
+    go true false e f here later = rw (e, f) later
+    go false held e f here later = rw e later
+
+-- no rank of the table is above 10
+pub rank-most : (code c : ℕ) → rankOf code c ≤ 10
+unfolding rankOf
+rank-most code c =
+    leb-true (rankOf code c) 10 (by-row (λ code rank. leb rank 10) (λ code. refl) requests refl (classOf c) code)
+
+-- the code of the first row that has a rank
+abbrev codeAt : List Row → ℕ → ℕ
+codeAt [] rank = 0
+codeAt (r ∷ rest) rank = if eqb rank (r .rank) then r .code else codeAt rest rank
+
+code-at : (code c : ℕ) → 0 < rankOf code c → codeAt requests (rankOf code c) ≡ code
+unfolding rankOf
+code-at code c some =
+    eqb-true (codeAt requests (rankOf code c)) code
+    (implied (ltb 0 (rankOf code c)) (eqb (codeAt requests (rankOf code c)) code)
+    (by-row (λ code rank. not (ltb 0 rank) || eqb (codeAt requests rank) code) (λ code. refl) requests refl (classOf c) code)
+    (lt-ltb 0 (rankOf code c) some))
+
+-- each rank above 0 is one code's alone
+pub rank-own : (code c code2 c2 : ℕ) → 0 < rankOf code c → rankOf code c ≡ rankOf code2 c2 → code ≡ code2
+rank-own code c code2 c2 some same =
+    sym (code-at code c some) ∙ ap (codeAt requests) same ∙ code-at code2 c2 (rw (← same) some)
 
 pub fail-outranks : (c : ℕ) → rankOf 0b1110 c < rankOf 0b1101 0
 unfolding rankOf rankIn

@@ -2,7 +2,7 @@
 use mathlib.Core.Path.{_≡_, refl}
 use mathlib.Core.Bool.{true, false}
 use mathlib.Core.Logic.{_↔_}
-use Prim.Native.Nat.{ℕ, _+_, _<_}
+use Prim.Native.Nat.{ℕ, _+_, _<_, _≤_}
 use lib.ListN.{length}
 use Rattle.basics.specs.First.{appliesAt, FirstAt}
 use Rattle.basics.proofs.First.{first-exact, none-exact}
@@ -14,7 +14,7 @@ use Rattle.pair.specs.declared.Pair.{Pair}
 use Rattle.pair.specs.declared.Decoded.the-variants as decoded
 use Rattle.pair.specs.declared.Encoded.the-variants as encoded
 use Rattle.pair.proofs.Coding.{faults-counted, pair-back, record-back, encodable-exact}
-use Rattle.pair.proofs.Ranks.{rowAt, row-rank, usable-row, fail-outranks}
+use Rattle.pair.proofs.Ranks.{rowAt, row-rank, usable-row, fail-outranks, rank-most, rank-own}
 use Rattle.pair.proofs.sections_fit.Kinds as sections-fit-kinds
 use Rattle.pair.proofs.sections_fit.Reads as sections-fit
 use Rattle.pair.proofs.sections_fit.Statement as sections-fit-statement
@@ -104,6 +104,13 @@ row-right = row-rank
 -- SF0 outranks FS, whatever its channel.
 fail-right : (c : ℕ) → rankOf forcedCode c < rankOf failHighCode 0
 fail-right = fail-outranks
+
+-- No rank is above 10, and each rank above 0 is one code's alone.
+rank-bounded : (code c : ℕ) → rankOf code c ≤ 10
+rank-bounded = rank-most
+
+rank-unshared : (code c code2 c2 : ℕ) → 0 < rankOf code c → rankOf code c ≡ rankOf code2 c2 → code ≡ code2
+rank-unshared = rank-own
 
 -- Two answers that the promise of a public function allows are equal. (`Post` is the function's `ensures`, as the checker
 -- reads it off the source.)

@@ -4,7 +4,7 @@ use mathlib.Core.Bool.{Bool, true, false, _&&_, _||_, and-eq-true-iff, true≢fa
 use mathlib.Core.List.{List, [], _∷_, _++_}
 use mathlib.Core.Logic.{_⊎_, inl, inr, ⊎-elim}
 use mathlib.Mathlib.Data.Bool.Basic.{eq-false-of-not-eq-true}
-use Prim.Native.Nat.{ℕ, _<_}
+use Prim.Native.Nat.{ℕ, _-_, _<_, _≤_}
 use native.Mathlib.Omega.{arith}
 use lib.Dec.{ltb, eqb}
 use borrow.Author.Tests.{ltb-true, ltb-false, eqb-true, lt-ltb, eq-eqb}
@@ -108,12 +108,6 @@ one-joined x (y ∷ xs) ys (inl (inr h)) = inr (one-joined x xs ys (inl h))
 one-joined x (y ∷ xs) ys (inr h) = inr (one-joined x xs ys (inr h))
 
 module _ (order : Request → Request → Bool) where
-  pub best-append : (xs ys : List Request) (none : Request)
-      → best order none (xs ++ ys) ≡ best order (best order none xs) ys
-  unfolding best
-  best-append [] ys none = refl
-  best-append (x ∷ xs) ys none = best-append xs ys (betterOf order x none)
-
   -- the best is one of the candidates, or what stands if there is none
   pub best-one : (xs : List Request) (none : Request)
       → (best order none xs ≡ none) ⊎ OneOf (best order none xs) xs
@@ -136,6 +130,14 @@ module _ (order : Request → Request → Bool) where
   best-has P [] none h each = h
   best-has P (x ∷ xs) none h each =
       best-has P xs (betterOf order x none) (choice-has P (order x none) x none (each .0) h) (each .1)
+
+  -- where no candidate is better, what stands if there is none stands
+  pub best-stays : (xs : List Request) (none : Request) → ((y : Request) → OneOf y xs → order y none ≡ false)
+      → best order none xs ≡ none
+  unfolding best
+  best-stays [] none beside = refl
+  best-stays (y ∷ xs) none beside =
+      rw (beside y (inl refl)) (best-stays xs none (λ z among. beside z (inr among)))
 
   module _ (irreflexive : (x : Request) → order x x ≡ false)
       (transitive : (x y z : Request) → order x y ≡ true → order y z ≡ true → order x z ≡ true) where
@@ -178,28 +180,68 @@ module _ (order : Request → Request → Bool) where
       beside y (inl same) = rw same (irreflexive x)
       beside y (inr k) = not-above y x none k above
 
-      best-stays : (xs : List Request) → Alone xs → best order x xs ≡ x
-      unfolding best
-      best-stays [] alone = refl
-      best-stays (y ∷ xs) alone =
-          rw (beside y (alone y (inl refl))) (best-stays xs (λ z among. alone z (inr among)))
+      stays : (xs : List Request) → Alone xs → best order x xs ≡ x
+      stays xs alone = best-stays xs x (λ y among. beside y (alone y among))
 
       -- a single candidate is the best, whatever stands beside it that cannot win
       pub best-single : (xs : List Request) → Alone xs → OneOf x xs → best order none xs ≡ x
       unfolding best
       best-single [] alone among = absurd among
-      best-single (y ∷ xs) alone (inl same) = rw (← same, above) (best-stays xs (λ z among. alone z (inr among)))
+      best-single (y ∷ xs) alone (inl same) = rw (← same, above) (stays xs (λ z among. alone z (inr among)))
       best-single (y ∷ xs) alone (inr among) =
           go (order y none) refl (alone y (inl refl)) (best-single xs (λ z one. alone z (inr one)) among)
         where
           go : (t : Bool) → order y none ≡ t → (y ≡ x) ⊎ (order y none ≡ false) → best order none xs ≡ x
               → best order none (y ∷ xs) ≡ x
-          go true e (inl same) ih = rw (e, same) (best-stays xs (λ z one. alone z (inr one)))
+          go true e (inl same) ih = rw (e, same) (stays xs (λ z one. alone z (inr one)))
           go true e (inr k) ih = absurd (true≢false (sym e ∙ k))
           go false e same ih = rw e ih
 
--- the order that a table of ranks gives is one of them
+-- Asking rank by rank from the top: no candidate has a rank above the asked one.
+abbrev pub NoneAbove : (Request → ℕ) → List Request → ℕ → Type 0
+NoneAbove rank xs asked = (y : Request) → OneOf y xs → rank y ≤ asked
+
+-- where no candidate has the asked rank, the next one may be asked for
+pub next-asked : (rank : Request → ℕ) (xs : List Request) (asked : ℕ) → NoneAbove rank xs asked
+    → ((y : Request) → OneOf y xs → rank y ≡ asked → ⊥) → NoneAbove rank xs (asked - 1)
+next-asked rank xs asked above passed y one =
+    let most = above y one in
+    let other = passed y one in
+    omega arith
+
+-- An order by rank: the higher rank comes first, and rank 0 before nothing. What comes first within a rank is left open.
+pub record HigherFirst (rank : Request → ℕ) (order : Request → Request → Bool) : Type 0 where
+  pub higher : (x y : Request) → rank y < rank x → order x y ≡ true
+  pub never : (x y : Request) → rank x ≡ 0 → order x y ≡ false
+  pub irreflexive : (x : Request) → order x x ≡ false
+  pub transitive : (x y z : Request) → order x y ≡ true → order y z ≡ true → order x z ≡ true
+
+module _ (rank : Request → ℕ) (order : Request → Request → Bool) (by : HigherFirst rank order)
+    (none : Request) (xs : List Request) where
+  -- a candidate of the asked rank that comes before the others of this rank is the best
+  pub best-asked : (x : Request) → OneOf x xs → rank none < rank x → NoneAbove rank xs (rank x)
+      → ((y : Request) → OneOf y xs → rank y ≡ rank x → (y ≡ x) ⊎ (order x y ≡ true))
+      → best order none xs ≡ x
+  best-asked x among some above first =
+      best-top order (by .irreflexive) (by .transitive) none x (by .higher x none some) xs
+      (λ y one. beats y one (ltb (rank y) (rank x)) refl) among
+    where
+      beats : (y : Request) → OneOf y xs → (t : Bool) → ltb (rank y) (rank x) ≡ t → (y ≡ x) ⊎ (order x y ≡ true)
+      beats y one true e = inr (by .higher x y (ltb-true (rank y) (rank x) e))
+      beats y one false e =
+          let least = ltb-false (rank y) (rank x) e in
+          let most = above y one in
+          first y one (omega arith)
+
+  -- where no rank is left there is no request
+  pub none-asked : NoneAbove rank xs 0 → best order none xs ≡ none
+  none-asked above = best-stays order xs none (λ y one. by .never y none (let most = above y one in omega arith))
+
+-- the order that a table of ranks gives is one of them, in which the lower channel comes first within a rank
 module _ (rankOf : ℕ → ℕ → ℕ) where
+  abbrev rank : Request → ℕ
+  rank x = rankOf (x .code) (x .channel)
+
   pub rank-irreflexive : (x : Request) → byRank rankOf x x ≡ false
   rank-irreflexive x = better-irreflexive (rankOf (x .code) (x .channel)) (x .channel)
 
@@ -208,3 +250,24 @@ module _ (rankOf : ℕ → ℕ → ℕ) where
   rank-transitive x y z =
       better-transitive (rankOf (x .code) (x .channel)) (x .channel) (rankOf (y .code) (y .channel)) (y .channel)
       (rankOf (z .code) (z .channel)) (z .channel)
+
+  pub higher-first : HigherFirst rank (byRank rankOf)
+  higher-first =
+      record {
+        higher = λ x y h. beaten (rank x) (x .channel) (rank y) (y .channel) (omega arith, inl h);
+        never = λ x y h. rw h;
+        irreflexive = rank-irreflexive;
+        transitive = rank-transitive;
+      }
+
+  -- a candidate of the asked rank is the best, where every other of this rank has a higher channel
+  pub best-lowest : (none : Request) (xs : List Request) (x : Request) → OneOf x xs → rank none < rank x
+      → NoneAbove rank xs (rank x)
+      → ((y : Request) → OneOf y xs → rank y ≡ rank x → (y ≡ x) ⊎ (x .channel < y .channel))
+      → best (byRank rankOf) none xs ≡ x
+  best-lowest none xs x among some above lowest =
+      best-asked rank (byRank rankOf) higher-first none xs x among some above
+      (λ y one same. ⊎-elim inl (λ lower. inr (first y same lower)) (lowest y one same))
+    where
+      first : (y : Request) → rank y ≡ rank x → x .channel < y .channel → byRank rankOf x y ≡ true
+      first y same lower = beaten (rank x) (x .channel) (rank y) (y .channel) (omega arith, inr (sym same, lower))

@@ -4,12 +4,12 @@ use mathlib.Core.Path.{_≡_}
 use mathlib.Core.Bool.{true, false}
 use mathlib.Core.List.{List}
 use mathlib.Core.Logic.{_⊎_, inr}
-use Prim.Native.Nat.{ℕ, _<_}
+use Prim.Native.Nat.{ℕ, _<_, _≤_}
 use Rattle.basics.proofs.One.{OneAnswer, one-value}
 use Rattle.request.specs.Order.{better, byRank, best, OneOf}
 use Rattle.request.specs.declared.Request.{Request}
 use Rattle.request.proofs.Order.{better-irreflexive, better-transitive, better-total, never-wins}
-use Rattle.request.proofs.Order.{best-one, best-above, best-single, rank-irreflexive, rank-transitive}
+use Rattle.request.proofs.Order.{best-one, best-above, best-single, best-lowest, rank-irreflexive, rank-transitive}
 use Rattle.request.proofs.better.Kinds as better-kinds
 use Rattle.request.proofs.better.Reads as better-fn
 use Rattle.request.proofs.better.Statement as better-statement
@@ -86,6 +86,17 @@ single-right : (rankOf : ℕ → ℕ → ℕ) (none x : Request) → byRank rank
     → ((y : Request) → OneOf y candidates → (y ≡ x) ⊎ (byRank rankOf y none ≡ false))
     → OneOf x candidates → best (byRank rankOf) none candidates ≡ x
 single-right rankOf = best-single (byRank rankOf) (rank-irreflexive rankOf) (rank-transitive rankOf)
+
+-- Ranks may be asked for one by one, from the top: a candidate that has the asked rank, while no candidate has a higher one
+-- and every other of this rank has a higher channel, is the best. (The law behind it, best-asked, leaves open what comes
+-- first within a rank.)
+asked-right : (rankOf : ℕ → ℕ → ℕ) (none : Request) (candidates : List Request) (x : Request) →
+    let rank : Request → ℕ = λ r. rankOf (r .code) (r .channel) in
+    OneOf x candidates → rank none < rank x
+    → ((y : Request) → OneOf y candidates → rank y ≤ rank x)
+    → ((y : Request) → OneOf y candidates → rank y ≡ rank x → (y ≡ x) ⊎ (x .channel < y .channel))
+    → best (byRank rankOf) none candidates ≡ x
+asked-right = best-lowest
 
 -- Two answers that the promise of a public function allows are equal. (`Post` is the function's `ensures`, as the checker
 -- reads it off the source.)

@@ -1,7 +1,11 @@
-//! The controller's step, over walks that stay in acceptable records.
+//! The controller's step, over walks that stay in acceptable records: a busy one, in
+//! which something befalls every step, and a quiet one, in which nothing ever does. A
+//! search that ends at the first request it finds has the most to look at in the quiet
+//! one, and lines are mostly quiet.
 
 use super::{Row, Unit, Work, SETTINGS};
 use crate::books::capture::Settings;
+use crate::books::pairs;
 use crate::books::runs::{Given, Run, COMMON};
 use crate::controller;
 use crate::door::{record_bytes, record_of, Door, Peer, RECORD, STEP};
@@ -21,13 +25,27 @@ struct Walk {
     steps: Vec<([u8; MOST_CONDITIONS], Given)>,
 }
 
+/// What each step of a quiet walk receives, with all conditions good.
+const NOTHING: Given = Given {
+    received: pairs::IDLE,
+    command: 0,
+    channel: 0,
+};
+
 impl Walk {
-    fn draw(settings: Settings) -> Self {
+    fn busy(settings: Settings) -> Self {
         let mut draws = Draws::from_seed(SEED);
         let mut run = Run::new(&mut draws, COMMON, settings);
         let start = record_bytes(&run.record);
         let steps = (0..STEPS).map(|_| draw_step(&mut run)).collect();
         Self { start, steps }
+    }
+
+    fn quiet(settings: Settings) -> Self {
+        Self {
+            start: record_bytes(&settings.fresh()),
+            steps: vec![([0; MOST_CONDITIONS], NOTHING); STEPS],
+        }
     }
 
     fn sections(&self) -> usize {
@@ -54,13 +72,16 @@ fn draw_step(run: &mut Run) -> ([u8; MOST_CONDITIONS], Given) {
 
 pub fn rows(library: &impl Door) -> io::Result<Vec<Row>> {
     let mut rows = Vec::new();
+    let work = |name| Work(name, Unit::Step, STEPS);
     for settings in SETTINGS {
-        let walk = Walk::draw(settings);
         let name = format!("step, n = {}", settings.n);
         let own = format!("{name}, Rust with its own record");
-        let work = |name| Work(name, Unit::Step, STEPS);
+        let quiet = format!("{name}, quiet");
+        let walk = Walk::busy(settings);
         rows.push(work(name).measure(|| go(library, &walk), || go(&Peer, &walk))?);
         rows.push(work(own).measure(|| go(library, &walk), || go_with_own_record(&walk))?);
+        let walk = Walk::quiet(settings);
+        rows.push(work(quiet).measure(|| go(library, &walk), || go(&Peer, &walk))?);
     }
     Ok(rows)
 }
@@ -107,8 +128,11 @@ fn record_in(answer: &[u8; STEP]) -> &[u8; RECORD] {
 
 #[cfg(test)]
 pub fn check(door: &impl Door) {
-    for settings in SETTINGS {
-        let walk = Walk::draw(settings);
+    for walk in SETTINGS
+        .map(Walk::busy)
+        .into_iter()
+        .chain(SETTINGS.map(Walk::quiet))
+    {
         let mut out = [0; STEP];
         out[1..=RECORD].copy_from_slice(&walk.start);
         for (conditions, given) in &walk.steps {

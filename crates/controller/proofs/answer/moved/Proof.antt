@@ -7,6 +7,7 @@ use Rattle.request.specs.declared.Request.{Request}
 use Rattle.controller.specs.Rules.{asked, accepting, held, kept, given, replacesHeld, inForce, waiting, localRequest}
 use Rattle.controller.specs.Rules.{decided}
 use Rattle.controller.specs.Step.{protection, waitOf, moved}
+use Rattle.controller.proofs.Apart.{command-kind, wait-kind}
 use Rattle.controller.proofs.Usability.{section-bounds}
 use Rattle.controller.proofs.Inputs.{WellFormed, well-formed}
 use Rattle.controller.proofs.Sendable.{sendable-room}
@@ -94,9 +95,21 @@ waiting-requires c κs = search needs
 local-request-requires : tie.Need-local-request-requires
 local-request-requires c κs =
     let start = c .before .before .before .before .before .before .before .before .before .before .before in
+    let a = start .args in
     let number = well start .number in
-    let bounds = section-bounds (start .args .s .n) (well start .fits) in
-    omega arith
+    let bounds = section-bounds (a .s .n) (well start .fits) in
+    let stood = c .before .before in (
+      omega arith,
+      omega arith,
+      rw (
+        stood .in-force .ensures,
+        stood .before .before .given .ensures,
+        stood .before .before .before .kept .ensures,
+        stood .before .before .before .before .held .ensures,
+      ) (command-kind (stood .before .replaces-held .result) (a .command) (a .c) (stood .before .before .before .before .before .before .asked .result)),
+      rw (c .waiting .ensures)
+          (wait-kind (c .before .wait-of .result) (stood .before .before .before .before .before .before .asked .result)),
+    )
 
 decided-requires : tie.Need-decided-requires
 decided-requires c κs = search needs

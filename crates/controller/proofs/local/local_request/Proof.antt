@@ -1,45 +1,162 @@
--- `local_request` meets its contract.
-use denote.Ref.{now}
+-- `local_request` meets its contract: no candidate has a rank above the asked one, and no section before this one has it.
+use mathlib.Core.Path.{_≡_, refl, sym, _∙_}
+use mathlib.Core.List.{List}
+use Prim.Native.Nat.{ℕ, _-_, _<_}
+use native.Mathlib.Omega.{arith}
 use lib.ListN.{drop}
-use Rattle.controller.proofs.Candidates.{candidate-wise}
 use borrow.Author.Needs.{needs}
+use Rattle.request.specs.declared.Request.{Request}
+use Rattle.controller.specs.Rules.{noRequest}
+use Rattle.controller.proofs.Sections.{as-long}
+use Rattle.controller.proofs.Asking.{Nest, Asked, Passed, none-passed, one-passed, first-asked, none-found, command-hit, wait-hit}
+use Rattle.controller.proofs.Asking.{section-hit, next-rank}
 use Rattle.controller.proofs.local.local_request.Statement.{statement}
 use Rattle.controller.proofs.local.local_request.Tie as tie
 
-better-of-requires : tie.Need-better-of-requires
-better-of-requires c κs = search needs
+abbrev nestOf : ℕ → ℕ → List ℕ → Request → Request → List ℕ → ℕ → ℕ → ℕ → Nest
+nestOf mask protection conditions command wait ranks asking command-rank wait-rank =
+    record {
+      mask = mask;
+      protection = protection;
+      working = drop 1 conditions;
+      command = command;
+      wait = wait;
+      ranks = ranks;
+      asking = asking;
+      command-rank = command-rank;
+      wait-rank = wait-rank;
+    }
 
-condition-requires : tie.Need-condition-requires
-condition-requires c κs = search needs
+abbrev Inv-ranks : tie.InvT-ranks
+Inv-ranks mask protection conditions command wait ranks asking command-rank wait-rank found₀ rank₀ found rank =
+    Asked (nestOf mask protection conditions command wait ranks asking command-rank wait-rank) rank × (found ≡ noRequest)
 
-better-of-requires-2 : tie.Need-better-of-requires-2
-better-of-requires-2 c κs = search needs
+abbrev μ-ranks : tie.MeasureT-ranks
+μ-ranks mask protection conditions command wait ranks asking command-rank wait-rank found₀ rank₀ found rank = rank
 
-best-section-requires : tie.Need-best-section-requires
-best-section-requires c κs = search needs
+abbrev Inv-loop : tie.InvT-loop
+Inv-loop mask protection conditions command wait ranks asking command-rank wait-rank found₀ rank c₀ found c =
+    Passed (nestOf mask protection conditions command wait ranks asking command-rank wait-rank) rank (λ (i : ℕ). i < c)
+    × (found ≡ found₀)
 
-better-of-requires-3 : tie.Need-better-of-requires-3
-better-of-requires-3 c κs = search needs
+abbrev μ-loop : tie.MeasureT-loop
+μ-loop mask protection conditions command wait ranks asking command-rank wait-rank found₀ rank c₀ found c = asking - c
 
-returns : tie.Need-returns
-returns c =
-    let a = c .before .before .before .before .before .before .args in
-    rw (
-      candidate-wise (a .mask) (a .protection) (drop 1 (now (a .conditions))) (a .command) (a .wait),
-      c .better-of3 .ensures,
-      c .before .best-section .ensures,
-      c .before .before .better-of2 .ensures,
-      c .before .before .before .condition .ensures,
-      c .before .before .before .before .better-of .ensures,
+slice-aggregate-section-ranks : tie.Need-slice-aggregate-section-ranks Inv-loop μ-loop Inv-ranks μ-ranks
+slice-aggregate-section-ranks c = search needs
+
+section-ranks-requires : tie.Need-section-ranks-requires Inv-loop μ-loop Inv-ranks μ-ranks
+section-ranks-requires c κs = search needs
+
+rank-of-requires : tie.Need-rank-of-requires Inv-loop μ-loop Inv-ranks μ-ranks
+rank-of-requires c κs = search needs
+
+rank-of-requires-2 : tie.Need-rank-of-requires-2 Inv-loop μ-loop Inv-ranks μ-ranks
+rank-of-requires-2 c κs = search needs
+
+ranks-holds : tie.Need-ranks-holds Inv-loop μ-loop Inv-ranks μ-ranks
+ranks-holds c = (first-asked _ _ (search needs) (c .before .before .before .section-ranks .ensures) (c .before .rank-of .ensures) (c .rank-of2 .ensures), refl)
+
+loop-holds : tie.Need-loop-holds Inv-loop μ-loop Inv-ranks μ-ranks
+loop-holds c = (none-passed _ _ _ (λ i h. omega arith) (c .before .if1 .left) (c .if2 .left), refl)
+
+cast-if3 : tie.Need-cast-if3 Inv-loop μ-loop Inv-ranks μ-ranks
+cast-if3 c = search needs
+
+array-read-if3 : tie.Need-array-read-if3 Inv-loop μ-loop Inv-ranks μ-ranks
+array-read-if3 c =
+    let start = c .before .before .before .before .before .before .before .before .before .before .before .before in
+    let long = as-long (start .args .protection) (start .args .conditions .now) (start .pre .0) in
+    let room = start .pre .1 in
+    let inside = c .before .before .before .before .before .ranks .inv .0 .ranked .within in
+    let looked = c .loop-test .taken in
+    omega arith
+
+section-asks-requires : tie.Need-section-asks-requires Inv-loop μ-loop Inv-ranks μ-ranks
+section-asks-requires c κs =
+    let start = c .before .before .before .before .before .before .before .before .before .before .before .before .before in
+    let long = as-long (start .args .protection) (start .args .conditions .now) (start .pre .0) in
+    let room = start .pre .1 in
+    let inside = c .before .before .before .before .before .before .ranks .inv .0 .ranked .within in
+    let looked = c .before .loop-test .taken in
+    omega arith
+
+add-c : tie.Need-add-c Inv-loop μ-loop Inv-ranks μ-ranks
+add-c c = search needs
+
+loop-less : tie.Need-loop-less Inv-loop μ-loop Inv-ranks μ-ranks
+loop-less c = search needs
+
+loop-again : tie.Need-loop-again Inv-loop μ-loop Inv-ranks μ-ranks
+loop-again c =
+    let inner = c .before .before .loop in
+    (one-passed _ _ _ _ _ (λ i h other. omega arith) (inner .inv .0) (c .if3 .left), inner .inv .1)
+
+sub-rank : tie.Need-sub-rank Inv-loop μ-loop Inv-ranks μ-ranks
+sub-rank c = search needs
+
+ranks-less : tie.Need-ranks-less Inv-loop μ-loop Inv-ranks μ-ranks
+ranks-less c = search needs
+
+ranks-again : tie.Need-ranks-again Inv-loop μ-loop Inv-ranks μ-ranks
+ranks-again c =
+    let at = c .before .before .before .before .before .ranks in
+    let inner = c .before .loop in
+    let end = c .loop-test .left in (
+      next-rank _ _ (c .before .before .before .before .ranks-test .taken) (at .inv .0) _ (λ i h. omega arith) (inner .inv .0),
+      inner .inv .1 ∙ at .inv .1,
     )
+
+returns : tie.Need-returns Inv-loop μ-loop Inv-ranks μ-ranks
+returns c =
+    let at = c .before .ranks in
+    let end = c .ranks-test .left in
+    let zero : at .rank ≡ 0 = omega arith in
+    at .inv .1 ∙ sym (none-found _ (rw zero at (at .inv .0)))
+
+returns-2 : tie.Need-returns-2 Inv-loop μ-loop Inv-ranks μ-ranks
+returns-2 c =
+    let pre = c .before .before .before .before .before .before .before .before .before .pre in
+    sym (command-hit _ _ (c .before .ranks-test .taken) (c .before .before .ranks .inv .0) (pre .2) (pre .3) (c .if1 .taken))
+
+returns-3 : tie.Need-returns-3 Inv-loop μ-loop Inv-ranks μ-ranks
+returns-3 c =
+    let pre = c .before .before .before .before .before .before .before .before .before .before .pre in
+    sym (wait-hit _ _ (c .before .before .ranks-test .taken) (c .before .before .before .ranks .inv .0) (pre .3) (c .before .if1 .left) (c .if2 .taken))
+
+returns-4 : tie.Need-returns-4 Inv-loop μ-loop Inv-ranks μ-ranks
+returns-4 c =
+    let inner = c .before .before .before .loop in
+    let looked = c .before .before .loop-test .taken in
+    c .section-asks .ensures
+    ∙ sym
+    (section-hit _ _ (c .before .before .before .before .before .before .ranks-test .taken) (c .before .before .before .before .before .before .before .ranks .inv .0) _ _ (λ i h. omega arith) (inner .inv .0)
+    (omega arith) (c .before .if3 .taken))
 
 pub local-request-spec : {M : Type 1} → statement M
 local-request-spec =
     tie.close
     (tie.spec
-    better-of-requires
-    condition-requires
-    better-of-requires-2
-    best-section-requires
-    better-of-requires-3
-    returns)
+    Inv-loop
+    μ-loop
+    Inv-ranks
+    μ-ranks
+    slice-aggregate-section-ranks
+    section-ranks-requires
+    rank-of-requires
+    rank-of-requires-2
+    ranks-holds
+    loop-holds
+    cast-if3
+    array-read-if3
+    section-asks-requires
+    add-c
+    loop-less
+    loop-again
+    sub-rank
+    ranks-less
+    ranks-again
+    returns
+    returns-2
+    returns-3
+    returns-4)

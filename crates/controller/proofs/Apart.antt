@@ -1,0 +1,94 @@
+-- The three kinds of candidates, commands, conditions and waits, share no rank.
+use mathlib.Core.Path.{_≡_, refl, sym, ap, _∙_}
+use mathlib.Core.Bool.{Bool, true, false, true≢false}
+use mathlib.Core.Logic.{inl, inr}
+use Prim.Native.Nat.{ℕ, _<_}
+use native.Mathlib.Nat.{not-suc-le-zero}
+use native.Mathlib.Omega.{arith}
+use lib.Dec.{ltb, eqb}
+use borrow.Author.Tests.{eqb-true}
+use Rattle.basics.specs.Choice.{if_then_else_}
+use Rattle.pair.specs.Request.{waitCode, rankIn, rankOf}
+use Rattle.pair.proofs.Ranks.{rank-own}
+use Rattle.request.specs.declared.Request.{Request}
+use Rattle.request.proofs.Order.{choice-has}
+use Rattle.controller.specs.Settings.{high}
+use Rattle.controller.specs.Rules.{request, lockout, forced, manual, waitToRestore, noRequest, rankOfRequest}
+use Rattle.controller.specs.Rules.{isCommand, held, isClear, kept, given, inForce, failCode, degradeCode, condition}
+use Rattle.controller.specs.Rules.{isWait, waiting}
+use Rattle.controller.specs.Asking.{OfKind}
+
+pub none-rank : rankOfRequest noRequest ≡ 0
+unfolding rankOf rankIn
+none-rank = refl
+
+-- each rank is one code's alone, so a request of another kind does not have it
+pub other-rank : (kind : ℕ → Bool) (x y : Request) → OfKind kind x → kind (y .code) ≡ false → 0 < rankOfRequest x
+    → rankOfRequest y ≡ rankOfRequest x → ⊥
+other-rank kind x y (inl is) other some same =
+    true≢false
+    (sym is ∙ ap kind (rank-own (x .code) (x .channel) (y .code) (y .channel) some (sym same)) ∙ other)
+other-rank kind x y (inr none) other some same =
+    let zero : rankOfRequest x ≡ 0 = ap rankOfRequest none ∙ none-rank in
+    absurd (omega arith)
+
+held-kind : (last : Request) → OfKind isCommand (held last)
+held-kind last = go (isCommand (last .code)) refl
+  where
+    go : (t : Bool) → isCommand (last .code) ≡ t → OfKind isCommand (held last)
+    go true e = rw e (inl e)
+    go false e = rw e (inr refl)
+
+given-kind : (command c : ℕ) → OfKind isCommand (given command c)
+given-kind command c =
+    choice-has (OfKind isCommand) (eqb command 2) lockout (if eqb command 3 then forced c else later) (inl refl)
+    (choice-has (OfKind isCommand) (eqb command 3) (forced c) later (inl refl)
+    (choice-has (OfKind isCommand) (eqb command 4) (manual c) noRequest (inl refl) (inr refl)))
+  where
+    later : Request
+    later = if eqb command 4 then manual c else noRequest
+
+-- what is in force is a command, or none
+pub command-kind : (replaced : Bool) (command c : ℕ) (last : Request)
+    → OfKind isCommand (inForce replaced (kept command (held last)) (given command c))
+command-kind replaced command c last =
+    choice-has (OfKind isCommand) replaced (given command c) (kept command (held last)) (given-kind command c)
+    (choice-has (OfKind isCommand) (isClear command) noRequest (held last) (inr refl) (held-kind last))
+
+pub wait-kind : (now : ℕ) (last : Request) → OfKind isWait (waiting now last)
+wait-kind now last =
+    choice-has (OfKind isWait) (ltb 0 now) (waitToRestore (last .channel)) noRequest (inl refl) (inr refl)
+
+pub wait-no-command : (x : Request) → OfKind isWait x → isCommand (x .code) ≡ false
+wait-no-command x (inl is) = rw (eqb-true (x .code) waitCode is)
+wait-no-command x (inr none) = rw none
+
+module _ (mask : ℕ) where
+  -- what holds of section c's fail and degrade, and of no request, holds of what its condition asks for
+  condition-has : (P : Request → Type 0) (c x : ℕ) → ((isHigh : Bool) → P (request (failCode isHigh) c))
+      → ((isHigh : Bool) → P (request (degradeCode isHigh) c)) → P noRequest → P (condition mask c x)
+  condition-has P c x fails degrades none = go (eqb x 2) (eqb x 1) refl refl
+    where
+      go : (failed degraded : Bool) → eqb x 2 ≡ failed → eqb x 1 ≡ degraded → P (condition mask c x)
+      go true degraded e f = rw e (fails (high mask c))
+      go false true e f = rw (e, f) (degrades (high mask c))
+      go false false e f = rw (e, f) none
+
+  pub no-command : (c x : ℕ) → isCommand (condition mask c x .code) ≡ false
+  no-command c x =
+      condition-has (λ (r : Request). isCommand (r .code) ≡ false) c x
+      (elim [ true ↦ refl | false ↦ refl ])
+      (elim [ true ↦ refl | false ↦ refl ])
+      refl
+
+  pub no-wait : (c x : ℕ) → isWait (condition mask c x .code) ≡ false
+  no-wait c x =
+      condition-has (λ (r : Request). isWait (r .code) ≡ false) c x
+      (elim [ true ↦ refl | false ↦ refl ])
+      (elim [ true ↦ refl | false ↦ refl ])
+      refl
+
+  pub own-channel : (c x : ℕ) → 0 < rankOfRequest (condition mask c x) → condition mask c x .channel ≡ c
+  own-channel c x =
+      condition-has (λ (r : Request). 0 < rankOfRequest r → r .channel ≡ c) c x (λ t h. refl) (λ t h. refl)
+      (λ h. absurd (not-suc-le-zero (rw none-rank at h)))
