@@ -2,7 +2,7 @@
 pub mod Candidates
 mod Apart
 mod Sections
-mod Asking
+mod Nest
 pub mod Usability
 pub mod Conditions
 pub mod Inputs

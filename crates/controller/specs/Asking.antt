@@ -1,4 +1,4 @@
--- What the functions behind the local request ask of and promise each other. No public promise cites it.
+-- What the functions behind the local request ask of each other and promise each other. No promise outside them cites it.
 use mathlib.Core.Path.{_≡_}
 use mathlib.Core.Bool.{Bool, true}
 use mathlib.Core.List.{List}

@@ -1,4 +1,4 @@
--- The controller of document 01, in its order: settings, the rules of one step, the refusals, the step, runs,
+-- To be believed: the controller of document 01, in its order: settings, the rules of one step, the refusals, the step, runs,
 -- the sequences.
 pub mod Settings
 pub mod Rules
@@ -6,5 +6,5 @@ pub mod Refusals
 pub mod Step
 pub mod Run
 pub mod Sequences
--- and, inside the crate alone, what stands behind the local request
+-- Need not be believed: what the functions behind the local request promise each other. What it is stands in `Rules`.
 pub mod Asking

@@ -14,12 +14,6 @@ ghost use lib.ListN.{length, drop};
 ghost use mathlib.Core.List.{_∷_};
 ghost use mathlib.Core.Path.{_≡_};
 
-fn beats(a: Request, b: Request) -> bool
-    ensures { λ r. ⌜ r ≡ byRank rankOf a b ⌝ }
-{
-    better(rank_of(a), a.channel, rank_of(b), b.channel)
-}
-
 // What section c asks for; the condition of section 0 is handed in apart.
 fn section_asks(mask: u16, protection: u8, conditions: &[u8], c: u8) -> Request
     requires { ⌜ c < length (now conditions) ⌝ }
@@ -32,7 +26,7 @@ fn section_asks(mask: u16, protection: u8, conditions: &[u8], c: u8) -> Request
     }
 }
 
-// The rank of what each section asks for, worked out once a step, and the number of sections up to the last that asks.
+// The rank of what each section asks for, worked out once a step. The sections from the answer on ask for nothing.
 fn section_ranks(mask: u16, protection: u8, conditions: &[u8], ranks: &mut [u8]) -> u8
     requires { ⌜ (1 ≤ length (now conditions)) × (length (now conditions) ≤ 16) × (length (now ranks) ≡ 16) ⌝ }
     ensures { λ r. ⌜ Ranked mask (protection ∷ drop 1 (now (conditions .entry))) (now (ranks .exit)) r ⌝ }
@@ -50,8 +44,8 @@ fn section_ranks(mask: u16, protection: u8, conditions: &[u8], ranks: &mut [u8])
     asking
 }
 
-// Asked for rank by rank from the top, and left at the first hit, which within a rank is the lowest section. The command and
-// the wait may come before the sections: each rank is one code's alone, so no two of the three kinds share a rank.
+// The table's ranks from the top, and for each the command, the wait and the sections from 0 up, left at the first hit. Command
+// and wait may come before the sections: no two of the three kinds share a rank, since each rank is one code's alone.
 pub(crate) fn local_request(
     mask: u16,
     protection: u8,
@@ -88,6 +82,12 @@ pub(crate) fn local_request(
         rank -= 1;
     }
     found
+}
+
+fn beats(a: Request, b: Request) -> bool
+    ensures { λ r. ⌜ r ≡ byRank rankOf a b ⌝ }
+{
+    better(rank_of(a), a.channel, rank_of(b), b.channel)
 }
 
 // RR answers a better request of the far end.

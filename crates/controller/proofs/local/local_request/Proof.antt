@@ -8,8 +8,8 @@ use borrow.Author.Needs.{needs}
 use Rattle.request.specs.declared.Request.{Request}
 use Rattle.controller.specs.Rules.{noRequest}
 use Rattle.controller.proofs.Sections.{as-long}
-use Rattle.controller.proofs.Asking.{Nest, Asked, Passed, none-passed, one-passed, first-asked, none-found, command-hit, wait-hit}
-use Rattle.controller.proofs.Asking.{section-hit, next-rank}
+use Rattle.controller.proofs.Nest.{Nest, Asked, Passed, none-passed, one-passed, first-asked, none-found, command-hit, wait-hit}
+use Rattle.controller.proofs.Nest.{section-hit, next-rank}
 use Rattle.controller.proofs.local.local_request.Statement.{statement}
 use Rattle.controller.proofs.local.local_request.Tie as tie
 
