@@ -8,8 +8,8 @@ use borrow.Author.Needs.{needs}
 use Rattle.request.specs.declared.Request.{Request}
 use Rattle.controller.specs.Rules.{noRequest}
 use Rattle.controller.proofs.Sections.{as-long}
-use Rattle.controller.proofs.Nest.{Nest, Asked, Passed, none-passed, one-passed, first-asked, none-found, command-hit, wait-hit}
-use Rattle.controller.proofs.Nest.{section-hit, next-rank}
+use Rattle.controller.proofs.Nest.{Nest, Asked, Passed, none-passed, one-passed, first-asked, none-found}
+use Rattle.controller.proofs.Nest.{command-hit, wait-hit, section-hit, next-rank}
 use Rattle.controller.proofs.local.local_request.Statement.{statement}
 use Rattle.controller.proofs.local.local_request.Tie as tie
 
@@ -55,7 +55,9 @@ rank-of-requires-2 : tie.Need-rank-of-requires-2 Inv-loop μ-loop Inv-ranks μ-r
 rank-of-requires-2 c κs = search needs
 
 ranks-holds : tie.Need-ranks-holds Inv-loop μ-loop Inv-ranks μ-ranks
-ranks-holds c = (first-asked _ _ (search needs) (c .before .before .before .section-ranks .ensures) (c .before .rank-of .ensures) (c .rank-of2 .ensures), refl)
+ranks-holds c =
+    let ranked = c .before .before .before .section-ranks .ensures in
+    (first-asked _ _ (search needs) ranked (c .before .rank-of .ensures) (c .rank-of2 .ensures), refl)
 
 loop-holds : tie.Need-loop-holds Inv-loop μ-loop Inv-ranks μ-ranks
 loop-holds c = (none-passed _ _ _ (λ i h. omega arith) (c .before .if1 .left) (c .if2 .left), refl)
@@ -117,20 +119,24 @@ returns c =
 returns-2 : tie.Need-returns-2 Inv-loop μ-loop Inv-ranks μ-ranks
 returns-2 c =
     let pre = c .before .before .before .before .before .before .before .before .before .pre in
-    sym (command-hit _ _ (c .before .ranks-test .taken) (c .before .before .ranks .inv .0) (pre .2) (pre .3) (c .if1 .taken))
+    let at = c .before .before .ranks in
+    sym (command-hit _ _ (c .before .ranks-test .taken) (at .inv .0) (pre .2) (pre .3) (c .if1 .taken))
 
 returns-3 : tie.Need-returns-3 Inv-loop μ-loop Inv-ranks μ-ranks
 returns-3 c =
     let pre = c .before .before .before .before .before .before .before .before .before .before .pre in
-    sym (wait-hit _ _ (c .before .before .ranks-test .taken) (c .before .before .before .ranks .inv .0) (pre .3) (c .before .if1 .left) (c .if2 .taken))
+    let at = c .before .before .before .ranks in
+    sym
+    (wait-hit _ _ (c .before .before .ranks-test .taken) (at .inv .0) (pre .3) (c .before .if1 .left) (c .if2 .taken))
 
 returns-4 : tie.Need-returns-4 Inv-loop μ-loop Inv-ranks μ-ranks
 returns-4 c =
     let inner = c .before .before .before .loop in
     let looked = c .before .before .loop-test .taken in
+    let outer = c .before .before .before .before .before .before in
     c .section-asks .ensures
     ∙ sym
-    (section-hit _ _ (c .before .before .before .before .before .before .ranks-test .taken) (c .before .before .before .before .before .before .before .ranks .inv .0) _ _ (λ i h. omega arith) (inner .inv .0)
+    (section-hit _ _ (outer .ranks-test .taken) (outer .before .ranks .inv .0) _ _ (λ i h. omega arith) (inner .inv .0)
     (omega arith) (c .before .if3 .taken))
 
 pub local-request-spec : {M : Type 1} → statement M
