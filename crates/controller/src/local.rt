@@ -44,8 +44,8 @@ fn section_ranks(mask: u16, protection: u8, conditions: &[u8], ranks: &mut [u8])
     asking
 }
 
-// The table's ranks from the top, and for each the command, the wait and the sections from 0 up, left at the first hit. Command
-// and wait may come before the sections: no two of the three kinds share a rank, since each rank is one code's alone.
+// The higher rank, then the lower channel (01, rule 3): so the first hit is the answer. Command and wait may come before the
+// sections: no two of the three kinds share a rank, since each rank is one code's alone.
 pub(crate) fn local_request(
     mask: u16,
     protection: u8,
