@@ -8,24 +8,21 @@ use std::path::Path;
 const SHIPPED: &str = "../target/staticlib";
 const MACHINE: &str = "x86_64";
 
-/// What `peer/here` makes for another machine, which is linked where this is set.
+/// What `peer/here` makes for a machine that is another.
 const HERE: &str = "../target/here";
-const ASKED: &str = "CHAINPLATER_HERE";
 
 const ARCHIVE: &str = "libchainplater.a";
 
 fn main() {
     println!("cargo::rustc-check-cfg=cfg(linked)");
     println!("cargo::rerun-if-changed=build.rs");
-    println!("cargo::rerun-if-env-changed={ASKED}");
     let package = env::var_os("CARGO_MANIFEST_DIR").unwrap_or_default();
-    let here = env::var_os(ASKED).is_some();
-    let folder = Path::new(&package).join(if here { HERE } else { SHIPPED });
+    let shipped = env::var("CARGO_CFG_TARGET_ARCH").is_ok_and(|machine| machine == MACHINE);
+    let folder = Path::new(&package).join(if shipped { SHIPPED } else { HERE });
     // A file that is not there counts as changed, so the archive is found as
     // soon as it comes.
     println!("cargo::rerun-if-changed={}", folder.join(ARCHIVE).display());
-    let fits = here || env::var("CARGO_CFG_TARGET_ARCH").is_ok_and(|machine| machine == MACHINE);
-    if fits && folder.join(ARCHIVE).is_file() {
+    if folder.join(ARCHIVE).is_file() {
         println!("cargo::rustc-cfg=linked");
         println!("cargo::rustc-link-search=native={}", folder.display());
         println!("cargo::rustc-link-lib=static=chainplater");

@@ -8,7 +8,7 @@ use native.Mathlib.Omega.{arith}
 use lib.Dec.{ltb, eqb}
 use borrow.Author.Tests.{eqb-true}
 use Rattle.basics.specs.Choice.{if_then_else_}
-use Rattle.pair.specs.Request.{waitCode, rankIn, rankOf}
+use Rattle.pair.specs.Request.{waitCode, nothingCode, rankIn, rankOf}
 use Rattle.pair.proofs.Ranks.{rank-own}
 use Rattle.request.specs.declared.Request.{Request}
 use Rattle.request.proofs.Order.{choice-has}
@@ -22,7 +22,7 @@ pub none-rank : rankOfRequest noRequest ≡ 0
 unfolding rankOf rankIn
 none-rank = refl
 
--- each rank is one code's alone, so a request of another kind does not have it
+-- each rank above 0 is one code's alone, so a request of another kind does not have it
 pub other-rank : (kind : ℕ → Bool) (x y : Request) → OfKind kind x → kind (y .code) ≡ false → 0 < rankOfRequest x
     → rankOfRequest y ≡ rankOfRequest x → ⊥
 other-rank kind x y (inl is) other some same =
@@ -64,31 +64,28 @@ wait-no-command x (inl is) = rw (eqb-true (x .code) waitCode is)
 wait-no-command x (inr none) = rw none
 
 module _ (mask : ℕ) where
-  -- what holds of section c's fail and degrade, and of no request, holds of what its condition asks for
-  condition-has : (P : Request → Type 0) (c x : ℕ) → ((isHigh : Bool) → P (request (failCode isHigh) c))
-      → ((isHigh : Bool) → P (request (degradeCode isHigh) c)) → P noRequest → P (condition mask c x)
-  condition-has P c x fails degrades none = go (eqb x 2) (eqb x 1) refl refl
-    where
-      go : (failed degraded : Bool) → eqb x 2 ≡ failed → eqb x 1 ≡ degraded → P (condition mask c x)
-      go true degraded e f = rw e (fails (high mask c))
-      go false true e f = rw (e, f) (degrades (high mask c))
-      go false false e f = rw (e, f) none
+  -- what holds of section c's fail and degrade, and of NR 0, holds of what its condition asks for
+  pub condition-has : (P : Request → Type 0) (c x : ℕ) → P (request (failCode (high mask c)) c)
+      → P (request (degradeCode (high mask c)) c) → P noRequest → P (condition mask c x)
+  condition-has P c x fails degrades none =
+      choice-has P (eqb x 2) (request (failCode (high mask c)) c)
+      (if eqb x 1 then request (degradeCode (high mask c)) c else noRequest) fails
+      (choice-has P (eqb x 1) (request (degradeCode (high mask c)) c) noRequest degrades none)
+
+  -- a kind that has none of the four codes has no condition
+  other-kind : (kind : ℕ → Bool) → ((isHigh : Bool) → kind (failCode isHigh) ≡ false)
+      → ((isHigh : Bool) → kind (degradeCode isHigh) ≡ false) → kind nothingCode ≡ false
+      → (c x : ℕ) → kind (condition mask c x .code) ≡ false
+  other-kind kind fails degrades none c x =
+      condition-has (λ (r : Request). kind (r .code) ≡ false) c x (fails (high mask c)) (degrades (high mask c)) none
 
   pub no-command : (c x : ℕ) → isCommand (condition mask c x .code) ≡ false
-  no-command c x =
-      condition-has (λ (r : Request). isCommand (r .code) ≡ false) c x
-      (elim [ true ↦ refl | false ↦ refl ])
-      (elim [ true ↦ refl | false ↦ refl ])
-      refl
+  no-command = other-kind isCommand (elim [ true ↦ refl | false ↦ refl ]) (elim [ true ↦ refl | false ↦ refl ]) refl
 
   pub no-wait : (c x : ℕ) → isWait (condition mask c x .code) ≡ false
-  no-wait c x =
-      condition-has (λ (r : Request). isWait (r .code) ≡ false) c x
-      (elim [ true ↦ refl | false ↦ refl ])
-      (elim [ true ↦ refl | false ↦ refl ])
-      refl
+  no-wait = other-kind isWait (elim [ true ↦ refl | false ↦ refl ]) (elim [ true ↦ refl | false ↦ refl ]) refl
 
   pub own-channel : (c x : ℕ) → 0 < rankOfRequest (condition mask c x) → condition mask c x .channel ≡ c
   own-channel c x =
-      condition-has (λ (r : Request). 0 < rankOfRequest r → r .channel ≡ c) c x (λ t h. refl) (λ t h. refl)
+      condition-has (λ (r : Request). 0 < rankOfRequest r → r .channel ≡ c) c x (λ h. refl) (λ h. refl)
       (λ h. absurd (not-suc-le-zero (rw none-rank at h)))

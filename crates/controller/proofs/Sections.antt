@@ -6,15 +6,14 @@ use mathlib.Core.Logic.{inl, inr}
 use Prim.Native.Nat.{ℕ, zero, suc, _+_, _<_, _≤_, zero-le, suc-le-suc}
 use native.Mathlib.Nat.{add-zero, zero-add, add-suc, suc-add, le-of-suc-le-suc, not-suc-le-zero}
 use native.Mathlib.Omega.{arith}
-use lib.Dec.{ltb, eqb}
+use lib.Dec.{eqb}
 use lib.ListN.{length, getD, set, drop}
 use lib.Seq.{getD-set-same, getD-set-other}
-use borrow.Author.Tests.{eqb-true, eqb-false, ltb-true, ltb-false}
+use borrow.Author.Tests.{eqb-true, eqb-false}
 use Rattle.request.specs.Order.{OneOf}
 use Rattle.request.specs.declared.Request.{Request}
 use Rattle.controller.specs.Rules.{rankOfRequest, condition, conditionsFrom}
 use Rattle.controller.specs.Asking.{asks, Ranked}
-use Rattle.controller.proofs.Apart.{none-rank}
 
 -- where the first of some conditions is another, the rest are as they were, and as many
 pub past-first : (x : ℕ) (xs : List ℕ) (i : ℕ) → (i ≡ 0 → ⊥) → getD (x ∷ drop 1 xs) i 0 ≡ getD xs i 0
@@ -25,11 +24,6 @@ past-first x (y ∷ xs) (suc i) h = refl
 pub as-long : (x : ℕ) (xs : List ℕ) → 1 ≤ length xs → length (x ∷ drop 1 xs) ≡ length xs
 as-long x [] h = absurd (not-suc-le-zero h)
 as-long x (y ∷ xs) h = refl
-
-good-past : (xs : List ℕ) (i : ℕ) → length xs ≤ i → getD xs i 0 ≡ 0
-good-past [] i h = refl
-good-past (x ∷ xs) zero h = absurd (not-suc-le-zero h)
-good-past (x ∷ xs) (suc i) h = good-past xs i (le-of-suc-le-suc h)
 
 module _ (mask : ℕ) where
   conditions-asked : (y : Request) (i : ℕ) (xs : List ℕ) → OneOf y (conditionsFrom mask i xs)
@@ -48,20 +42,15 @@ module _ (mask : ℕ) where
       inr (rw (add-suc i k, ← suc-add i k) (asked-conditions (suc i) xs k (le-of-suc-le-suc h)))
 
   -- what is asked for by conditions is asked for by some section, and the other way round
-  pub some-section : (y : Request) (xs : List ℕ) → OneOf y (conditionsFrom mask 0 xs) → (c : ℕ) × (y ≡ asks mask xs c)
-  some-section y xs among = let (c, h, same) = conditions-asked y 0 xs among in (c, rw (zero-add c) at same)
+  pub some-section : (y : Request) (xs : List ℕ) → OneOf y (conditionsFrom mask 0 xs)
+      → (c : ℕ) × (c < length xs) × (y ≡ asks mask xs c)
+  some-section y xs among = let (c, h, same) = conditions-asked y 0 xs among in (c, h, rw (zero-add c) at same)
 
   pub section-one : (xs : List ℕ) (c : ℕ) → c < length xs → OneOf (asks mask xs c) (conditionsFrom mask 0 xs)
   section-one xs c h = rw (zero-add c) at (asked-conditions 0 xs c h)
 
 module _ (mask : ℕ) (conditions : List ℕ) where
-  -- the sections before c were looked at: the ranks are theirs, and those from `asking` on ask for nothing
-  pub record RankedTo (ranks : List ℕ) (c asking : ℕ) : Type 0 where
-    pub rank-is : (i : ℕ) → i < c → getD ranks i 0 ≡ rankOfRequest (asks mask conditions i)
-    pub others-none : (i : ℕ) → asking ≤ i → i < c → rankOfRequest (asks mask conditions i) ≡ 0
-    pub within : asking ≤ c
-
-  pub none-ranked : (ranks : List ℕ) → RankedTo ranks 0 0
+  pub none-ranked : (ranks : List ℕ) → Ranked mask conditions ranks 0 0
   none-ranked ranks =
       record {
         rank-is = λ i h. absurd (not-suc-le-zero h);
@@ -69,8 +58,8 @@ module _ (mask : ℕ) (conditions : List ℕ) where
         within = zero-le;
       }
 
-  module _ (ranks : List ℕ) (c asking rank : ℕ) (room : c < length ranks)
-      (here : rank ≡ rankOfRequest (asks mask conditions c)) (before : RankedTo ranks c asking) where
+  module _ (ranks : List ℕ) (c past-last rank : ℕ) (room : c < length ranks)
+      (here : rank ≡ rankOfRequest (asks mask conditions c)) (before : Ranked mask conditions ranks c past-last) where
     rank-next : (i : ℕ) → i < c + 1 → getD (set ranks c rank) i 0 ≡ rankOfRequest (asks mask conditions i)
     rank-next i h = go (eqb i c) refl
       where
@@ -80,11 +69,13 @@ module _ (mask : ℕ) (conditions : List ℕ) where
             let other : i ≡ c → ⊥ = eqb-false i c e in
             getD-set-other ranks c i rank 0 other ∙ before .rank-is i (omega arith)
 
-    pub asking-ranked : RankedTo (set ranks c rank) (c + 1) (c + 1)
+    -- section c asks
+    pub asking-ranked : Ranked mask conditions (set ranks c rank) (c + 1) (c + 1)
     asking-ranked =
         record { rank-is = rank-next; others-none = λ i l h. absurd (omega arith); within = omega arith }
 
-    pub silent-ranked : rank ≡ 0 → RankedTo (set ranks c rank) (c + 1) asking
+    -- or it does not
+    pub silent-ranked : rank ≡ 0 → Ranked mask conditions (set ranks c rank) (c + 1) past-last
     silent-ranked silent =
         record {
           rank-is = rank-next;
@@ -92,23 +83,6 @@ module _ (mask : ℕ) (conditions : List ℕ) where
           within = let within = before .within in omega arith;
         }
       where
-        go : (i : ℕ) → asking ≤ i → i < c + 1 → (t : Bool) → eqb i c ≡ t → rankOfRequest (asks mask conditions i) ≡ 0
+        go : (i : ℕ) → past-last ≤ i → i < c + 1 → (t : Bool) → eqb i c ≡ t → rankOfRequest (asks mask conditions i) ≡ 0
         go i l h true e = rw (eqb-true i c e) (sym here ∙ silent)
         go i l h false e = let other : i ≡ c → ⊥ = eqb-false i c e in before .others-none i l (omega arith)
-
-  -- past the last section there is none that asks
-  pub all-ranked : (ranks : List ℕ) (c asking : ℕ) → c ≡ length conditions → RankedTo ranks c asking
-      → Ranked mask conditions ranks asking
-  all-ranked ranks c asking end before =
-      let inside = before .within in
-      record {
-        rank-is = λ i h. before .rank-is i (omega arith);
-        others-none = λ i l. go i l (ltb i c) refl;
-        within = omega arith;
-      }
-    where
-      go : (i : ℕ) → asking ≤ i → (t : Bool) → ltb i c ≡ t → rankOfRequest (asks mask conditions i) ≡ 0
-      go i l true e = before .others-none i l (ltb-true i c e)
-      go i l false e =
-          let past = ltb-false i c e in
-          rw (good-past conditions i (omega arith)) none-rank

@@ -17,6 +17,7 @@ use Rattle.controller.specs.Settings.{high}
 use Rattle.controller.specs.Rules.{request, lockout, forced, manual, waitToRestore, reverse, noRequest}
 use Rattle.controller.specs.Rules.{failCode, degradeCode, condition, conditionsFrom, isWait}
 use Rattle.controller.specs.Refusals.{otherPriority, againstMask}
+use Rattle.controller.proofs.Apart.{condition-has}
 use Rattle.controller.proofs.Usability.{section-bounds}
 
 module _ (n mask now : ℕ) where
@@ -138,12 +139,8 @@ module _ (n mask now : ℕ) where
       }
 
   pub condition-sendable : (c x : ℕ) → c ≤ n → Sendable (condition mask c x)
-  condition-sendable c x k = go (eqb x 2) (eqb x 1) refl refl
-    where
-      go : (failed degraded : Bool) → eqb x 2 ≡ failed → eqb x 1 ≡ degraded → Sendable (condition mask c x)
-      go true d e f = rw e (by-priority fails c k)
-      go false true e f = rw (e, f) (by-priority degrades c k)
-      go false false e f = rw (e, f) none-sendable
+  condition-sendable c x k =
+      condition-has mask Sendable c x (by-priority fails c k) (by-priority degrades c k) none-sendable
 
   pub conditions-sendable : (xs : List ℕ) (c : ℕ) → c + length xs ≤ n + 1 → Each Sendable (conditionsFrom mask c xs)
   conditions-sendable [] c h = tt

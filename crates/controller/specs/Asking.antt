@@ -4,11 +4,11 @@ use mathlib.Core.Bool.{Bool, true}
 use mathlib.Core.List.{List}
 use mathlib.Core.Logic.{_⊎_}
 use Prim.Native.Nat.{ℕ, _<_, _≤_}
-use lib.ListN.{length, getD}
+use lib.ListN.{getD}
 use Rattle.request.specs.declared.Request.{Request}
 use Rattle.controller.specs.Rules.{noRequest, rankOfRequest, condition}
 
--- of a kind of requests, as a command or a wait, or none
+-- a request whose code is of a kind, or NR 0
 abbrev pub OfKind : (ℕ → Bool) → Request → Type 0
 OfKind kind x = (kind (x .code) ≡ true) ⊎ (x ≡ noRequest)
 
@@ -16,8 +16,8 @@ OfKind kind x = (kind (x .code) ≡ true) ⊎ (x ≡ noRequest)
 abbrev pub asks : ℕ → List ℕ → ℕ → Request
 asks mask conditions c = condition mask c (getD conditions c 0)
 
--- the ranks of what the sections before `asking` ask for; the others ask for nothing
-pub record Ranked (mask : ℕ) (conditions ranks : List ℕ) (asking : ℕ) : Type 0 where
-  pub rank-is : (c : ℕ) → c < asking → getD ranks c 0 ≡ rankOfRequest (asks mask conditions c)
-  pub others-none : (c : ℕ) → asking ≤ c → rankOfRequest (asks mask conditions c) ≡ 0
-  pub within : asking ≤ length conditions
+-- of the sections before c: the ranks are of what they ask for, and those from `past-last` on ask for nothing
+pub record Ranked (mask : ℕ) (conditions ranks : List ℕ) (c past-last : ℕ) : Type 0 where
+  pub rank-is : (i : ℕ) → i < c → getD ranks i 0 ≡ rankOfRequest (asks mask conditions i)
+  pub others-none : (i : ℕ) → past-last ≤ i → i < c → rankOfRequest (asks mask conditions i) ≡ 0
+  pub within : past-last ≤ c

@@ -26,26 +26,26 @@ fn section_asks(mask: u16, protection: u8, conditions: &[u8], c: u8) -> Request
     }
 }
 
-// The rank of what each section asks for, worked out once a step. The sections from the answer on ask for nothing.
+// The rank of what each section asks for, worked out once a step, and the place behind the last section that asks.
 fn section_ranks(mask: u16, protection: u8, conditions: &[u8], ranks: &mut [u8]) -> u8
     requires { ⌜ (1 ≤ length (now conditions)) × (length (now conditions) ≤ 16) × (length (now ranks) ≡ 16) ⌝ }
-    ensures { λ r. ⌜ Ranked mask (protection ∷ drop 1 (now (conditions .entry))) (now (ranks .exit)) r ⌝ }
+    ensures { λ r. ⌜ Ranked mask (protection ∷ drop 1 (now (conditions .entry))) (now (ranks .exit)) (length (now (conditions .entry))) r ⌝ }
 {
-    let mut asking: u8 = 0;
+    let mut past_last: u8 = 0;
     let mut c: u8 = 0;
     while (c as usize) < conditions.len() {
         let rank = rank_of(section_asks(mask, protection, conditions, c));
         ranks[c as usize] = rank;
         c += 1;
         if 0 < rank {
-            asking = c;
+            past_last = c;
         }
     }
-    asking
+    past_last
 }
 
 // The higher rank, then the lower channel (01, rule 3): so the first hit is the answer. Command and wait may come before the
-// sections: no two of the three kinds share a rank, since each rank is one code's alone.
+// sections: no two of the three kinds share a rank, since each rank above 0 is one code's alone.
 pub(crate) fn local_request(
     mask: u16,
     protection: u8,
@@ -57,7 +57,7 @@ pub(crate) fn local_request(
     ensures { λ r. ⌜ r ≡ localRequest mask protection (drop 1 (now (conditions .entry))) command wait ⌝ }
 {
     let mut ranks = [0u8; 16];
-    let asking = section_ranks(mask, protection, conditions, &mut ranks);
+    let past_last = section_ranks(mask, protection, conditions, &mut ranks);
     let command_rank = rank_of(command);
     let wait_rank = rank_of(wait);
     let mut found = NO_REQUEST;
@@ -71,8 +71,9 @@ pub(crate) fn local_request(
             found = wait;
             break;
         }
+        // Sections from `past_last` on ask for nothing.
         let mut c: u8 = 0;
-        while c < asking {
+        while c < past_last {
             if ranks[c as usize] == rank {
                 found = section_asks(mask, protection, conditions, c);
                 break 'ranks;

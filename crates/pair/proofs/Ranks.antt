@@ -1,4 +1,5 @@
--- A request has the rank of each row that it stands in, and a usable pair's stands in one.
+-- A request has the rank of each row that it stands in, and a usable pair's stands in one. No rank is above 10, and each above
+-- 0 is one code's alone.
 use mathlib.Core.Path.{_≡_, refl, sym, ap, _∙_}
 use mathlib.Core.Bool.{Bool, true, false, not, _||_, and-eq-true-iff, false≢true}
 use mathlib.Core.List.{List, [], _∷_}

@@ -132,7 +132,7 @@ module _ (order : Request → Request → Bool) where
       best-has P xs (betterOf order x none) (choice-has P (order x none) x none (each .0) h) (each .1)
 
   -- where no candidate is better, what stands if there is none stands
-  pub best-stays : (xs : List Request) (none : Request) → ((y : Request) → OneOf y xs → order y none ≡ false)
+  best-stays : (xs : List Request) (none : Request) → ((y : Request) → OneOf y xs → order y none ≡ false)
       → best order none xs ≡ none
   unfolding best
   best-stays [] none beside = refl
@@ -260,6 +260,10 @@ module _ (rankOf : ℕ → ℕ → ℕ) where
         transitive = rank-transitive;
       }
 
+  -- within a rank the lower channel comes first
+  pub lower-first : (x y : Request) → 0 < rank x → rank y ≡ rank x → x .channel < y .channel → byRank rankOf x y ≡ true
+  lower-first x y some same lower = beaten (rank x) (x .channel) (rank y) (y .channel) (some, inr (sym same, lower))
+
   -- a candidate of the asked rank is the best, where every other of this rank has a higher channel
   pub best-lowest : (none : Request) (xs : List Request) (x : Request) → OneOf x xs → rank none < rank x
       → NoneAbove rank xs (rank x)
@@ -267,7 +271,4 @@ module _ (rankOf : ℕ → ℕ → ℕ) where
       → best (byRank rankOf) none xs ≡ x
   best-lowest none xs x among some above lowest =
       best-asked rank (byRank rankOf) higher-first none xs x among some above
-      (λ y one same. ⊎-elim inl (λ lower. inr (first y same lower)) (lowest y one same))
-    where
-      first : (y : Request) → rank y ≡ rank x → x .channel < y .channel → byRank rankOf x y ≡ true
-      first y same lower = beaten (rank x) (x .channel) (rank y) (y .channel) (omega arith, inr (sym same, lower))
+      (λ y one same. ⊎-elim inl (λ lower. inr (lower-first x y (omega arith) same lower)) (lowest y one same))

@@ -90,13 +90,13 @@ single-right rankOf = best-single (byRank rankOf) (rank-irreflexive rankOf) (ran
 -- Ranks may be asked for one by one, from the top: a candidate that has the asked rank, while no candidate has a higher one
 -- and every other of this rank has a higher channel, is the best. (The law behind it, best-asked, leaves open what comes
 -- first within a rank.)
-asked-right : (rankOf : ℕ → ℕ → ℕ) (none : Request) (candidates : List Request) (x : Request) →
+first-hit-right : (rankOf : ℕ → ℕ → ℕ) (none : Request) (candidates : List Request) (x : Request) →
     let rank : Request → ℕ = λ r. rankOf (r .code) (r .channel) in
     OneOf x candidates → rank none < rank x
     → ((y : Request) → OneOf y candidates → rank y ≤ rank x)
     → ((y : Request) → OneOf y candidates → rank y ≡ rank x → (y ≡ x) ⊎ (x .channel < y .channel))
     → best (byRank rankOf) none candidates ≡ x
-asked-right = best-lowest
+first-hit-right = best-lowest
 
 -- Two answers that the promise of a public function allows are equal. (`Post` is the function's `ensures`, as the checker
 -- reads it off the source.)

@@ -1,7 +1,7 @@
-//! The controller's step, over walks that stay in acceptable records: a busy one, in
-//! which something befalls every step, and a quiet one, in which nothing ever does. A
-//! search that ends at the first request it finds has the most to look at in the quiet
-//! one, and lines are mostly quiet.
+//! The controller's step, over walks that stay in acceptable records: a drawn one, in
+//! which conditions, commands and pairs come and go; a quiet one, as lines mostly are; and
+//! one whose last section is degraded, of low priority, where a search from the highest
+//! rank down and from section 0 up has the most to look at.
 
 use super::{Row, Unit, Work, SETTINGS};
 use crate::books::capture::Settings;
@@ -13,7 +13,7 @@ use crate::draws::Draws;
 use std::hint::black_box;
 use std::io;
 
-/// Steps of a walk: more than a branch predictor learns by heart.
+/// Steps of a walk: of a drawn one, more than a branch predictor learns by heart.
 const STEPS: usize = 16_384;
 const SEED: u64 = 21;
 
@@ -25,15 +25,17 @@ struct Walk {
     steps: Vec<([u8; MOST_CONDITIONS], Given)>,
 }
 
-/// What each step of a quiet walk receives, with all conditions good.
+/// A step with no command and nothing from the far end.
 const NOTHING: Given = Given {
     received: pairs::IDLE,
     command: 0,
     channel: 0,
 };
 
+const DEGRADED: u8 = 1;
+
 impl Walk {
-    fn busy(settings: Settings) -> Self {
+    fn drawn(settings: Settings) -> Self {
         let mut draws = Draws::from_seed(SEED);
         let mut run = Run::new(&mut draws, COMMON, settings);
         let start = record_bytes(&run.record);
@@ -42,10 +44,35 @@ impl Walk {
     }
 
     fn quiet(settings: Settings) -> Self {
+        Self::of_one(settings, [0; MOST_CONDITIONS])
+    }
+
+    fn last_degraded(settings: Settings) -> Self {
+        let mut conditions = [0; MOST_CONDITIONS];
+        conditions[usize::from(settings.n)] = DEGRADED;
+        Self::of_one(
+            Settings {
+                mask: 0,
+                ..settings
+            },
+            conditions,
+        )
+    }
+
+    /// The same conditions in every step.
+    fn of_one(settings: Settings, conditions: [u8; MOST_CONDITIONS]) -> Self {
         Self {
             start: record_bytes(&settings.fresh()),
-            steps: vec![([0; MOST_CONDITIONS], NOTHING); STEPS],
+            steps: vec![(conditions, NOTHING); STEPS],
         }
+    }
+
+    fn all(settings: Settings) -> [Self; 3] {
+        [
+            Self::drawn(settings),
+            Self::quiet(settings),
+            Self::last_degraded(settings),
+        ]
     }
 
     fn sections(&self) -> usize {
@@ -72,16 +99,19 @@ fn draw_step(run: &mut Run) -> ([u8; MOST_CONDITIONS], Given) {
 
 pub fn rows(library: &impl Door) -> io::Result<Vec<Row>> {
     let mut rows = Vec::new();
-    let work = |name| Work(name, Unit::Step, STEPS);
     for settings in SETTINGS {
         let name = format!("step, n = {}", settings.n);
-        let own = format!("{name}, Rust with its own record");
-        let quiet = format!("{name}, quiet");
-        let walk = Walk::busy(settings);
-        rows.push(work(name).measure(|| go(library, &walk), || go(&Peer, &walk))?);
-        rows.push(work(own).measure(|| go(library, &walk), || go_with_own_record(&walk))?);
-        let walk = Walk::quiet(settings);
-        rows.push(work(quiet).measure(|| go(library, &walk), || go(&Peer, &walk))?);
+        let work = |more| Work(format!("{name}{more}"), Unit::Step, STEPS);
+        let [drawn, quiet, last] = &Walk::all(settings);
+        for (more, walk) in [
+            ("", drawn),
+            (", quiet", quiet),
+            (", last section degraded", last),
+        ] {
+            rows.push(work(more).measure(|| go(library, walk), || go(&Peer, walk))?);
+        }
+        let own = work(", Rust with its own record");
+        rows.push(own.measure(|| go(library, drawn), || go_with_own_record(drawn))?);
     }
     Ok(rows)
 }
@@ -128,11 +158,7 @@ fn record_in(answer: &[u8; STEP]) -> &[u8; RECORD] {
 
 #[cfg(test)]
 pub fn check(door: &impl Door) {
-    for walk in SETTINGS
-        .map(Walk::busy)
-        .into_iter()
-        .chain(SETTINGS.map(Walk::quiet))
-    {
+    for walk in SETTINGS.into_iter().flat_map(Walk::all) {
         let mut out = [0; STEP];
         out[1..=RECORD].copy_from_slice(&walk.start);
         for (conditions, given) in &walk.steps {

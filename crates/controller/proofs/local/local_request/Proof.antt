@@ -8,13 +8,13 @@ use borrow.Author.Needs.{needs}
 use Rattle.request.specs.declared.Request.{Request}
 use Rattle.controller.specs.Rules.{noRequest}
 use Rattle.controller.proofs.Sections.{as-long}
-use Rattle.controller.proofs.Nest.{Nest, Asked, Passed, none-passed, one-passed, first-asked, none-found}
+use Rattle.controller.proofs.Nest.{Nest, Worked, Asked, Passed, first-asked, none-found, none-passed, one-passed}
 use Rattle.controller.proofs.Nest.{command-hit, wait-hit, section-hit, next-rank}
 use Rattle.controller.proofs.local.local_request.Statement.{statement}
 use Rattle.controller.proofs.local.local_request.Tie as tie
 
 abbrev nestOf : ℕ → ℕ → List ℕ → Request → Request → List ℕ → ℕ → ℕ → ℕ → Nest
-nestOf mask protection conditions command wait ranks asking command-rank wait-rank =
+nestOf mask protection conditions command wait ranks past-last command-rank wait-rank =
     record {
       mask = mask;
       protection = protection;
@@ -22,25 +22,26 @@ nestOf mask protection conditions command wait ranks asking command-rank wait-ra
       command = command;
       wait = wait;
       ranks = ranks;
-      asking = asking;
+      past-last = past-last;
       command-rank = command-rank;
       wait-rank = wait-rank;
     }
 
 abbrev Inv-ranks : tie.InvT-ranks
-Inv-ranks mask protection conditions command wait ranks asking command-rank wait-rank found₀ rank₀ found rank =
-    Asked (nestOf mask protection conditions command wait ranks asking command-rank wait-rank) rank × (found ≡ noRequest)
+Inv-ranks mask protection conditions command wait ranks past-last command-rank wait-rank found₀ rank₀ found rank =
+    let nest = nestOf mask protection conditions command wait ranks past-last command-rank wait-rank in
+    Worked nest × Asked nest rank × (found ≡ noRequest)
 
 abbrev μ-ranks : tie.MeasureT-ranks
-μ-ranks mask protection conditions command wait ranks asking command-rank wait-rank found₀ rank₀ found rank = rank
+μ-ranks mask protection conditions command wait ranks past-last command-rank wait-rank found₀ rank₀ found rank = rank
 
 abbrev Inv-loop : tie.InvT-loop
-Inv-loop mask protection conditions command wait ranks asking command-rank wait-rank found₀ rank c₀ found c =
-    Passed (nestOf mask protection conditions command wait ranks asking command-rank wait-rank) rank (λ (i : ℕ). i < c)
+Inv-loop mask protection conditions command wait ranks past-last command-rank wait-rank found₀ rank c₀ found c =
+    Passed (nestOf mask protection conditions command wait ranks past-last command-rank wait-rank) rank (λ (i : ℕ). i < c)
     × (found ≡ found₀)
 
 abbrev μ-loop : tie.MeasureT-loop
-μ-loop mask protection conditions command wait ranks asking command-rank wait-rank found₀ rank c₀ found c = asking - c
+μ-loop mask protection conditions command wait ranks past-last command-rank wait-rank found₀ rank c₀ found c = past-last - c
 
 slice-aggregate-section-ranks : tie.Need-slice-aggregate-section-ranks Inv-loop μ-loop Inv-ranks μ-ranks
 slice-aggregate-section-ranks c = search needs
@@ -56,8 +57,16 @@ rank-of-requires-2 c κs = search needs
 
 ranks-holds : tie.Need-ranks-holds Inv-loop μ-loop Inv-ranks μ-ranks
 ranks-holds c =
-    let ranked = c .before .before .before .section-ranks .ensures in
-    (first-asked _ _ (search needs) ranked (c .before .rank-of .ensures) (c .rank-of2 .ensures), refl)
+    let start = c .before .before .before .before .before .before in
+    let long = as-long (start .args .protection) (start .args .conditions .now) (start .pre .0) in (
+      record {
+        ranked = rw long (c .before .before .before .section-ranks .ensures);
+        command-is = c .before .rank-of .ensures;
+        wait-is = c .rank-of2 .ensures;
+      },
+      first-asked _ _ (search needs),
+      refl,
+    )
 
 loop-holds : tie.Need-loop-holds Inv-loop μ-loop Inv-ranks μ-ranks
 loop-holds c = (none-passed _ _ _ (λ i h. omega arith) (c .before .if1 .left) (c .if2 .left), refl)
@@ -105,8 +114,9 @@ ranks-again c =
     let at = c .before .before .before .before .before .ranks in
     let inner = c .before .loop in
     let end = c .loop-test .left in (
-      next-rank _ _ (c .before .before .before .before .ranks-test .taken) (at .inv .0) _ (λ i h. omega arith) (inner .inv .0),
-      inner .inv .1 ∙ at .inv .1,
+      at .inv .0,
+      next-rank _ _ (c .before .before .before .before .ranks-test .taken) (at .inv .0) (at .inv .1) _ (inner .inv .0) (λ i h. omega arith),
+      inner .inv .1 ∙ at .inv .2,
     )
 
 returns : tie.Need-returns Inv-loop μ-loop Inv-ranks μ-ranks
@@ -114,29 +124,30 @@ returns c =
     let at = c .before .ranks in
     let end = c .ranks-test .left in
     let zero : at .rank ≡ 0 = omega arith in
-    at .inv .1 ∙ sym (none-found _ (rw zero at (at .inv .0)))
+    at .inv .2 ∙ sym (none-found _ (rw zero at (at .inv .1)))
 
 returns-2 : tie.Need-returns-2 Inv-loop μ-loop Inv-ranks μ-ranks
 returns-2 c =
     let pre = c .before .before .before .before .before .before .before .before .before .pre in
     let at = c .before .before .ranks in
-    sym (command-hit _ _ (c .before .ranks-test .taken) (at .inv .0) (pre .2) (pre .3) (c .if1 .taken))
+    sym (command-hit _ _ (c .before .ranks-test .taken) (at .inv .0) (at .inv .1) (pre .2) (pre .3) (c .if1 .taken))
 
 returns-3 : tie.Need-returns-3 Inv-loop μ-loop Inv-ranks μ-ranks
 returns-3 c =
     let pre = c .before .before .before .before .before .before .before .before .before .before .pre in
     let at = c .before .before .before .ranks in
-    sym
-    (wait-hit _ _ (c .before .before .ranks-test .taken) (at .inv .0) (pre .3) (c .before .if1 .left) (c .if2 .taken))
+    let some = c .before .before .ranks-test .taken in
+    sym (wait-hit _ _ some (at .inv .0) (at .inv .1) (pre .3) (c .before .if1 .left) (c .if2 .taken))
 
 returns-4 : tie.Need-returns-4 Inv-loop μ-loop Inv-ranks μ-ranks
 returns-4 c =
     let inner = c .before .before .before .loop in
     let looked = c .before .before .loop-test .taken in
     let outer = c .before .before .before .before .before .before in
+    let at = outer .before .ranks in
     c .section-asks .ensures
     ∙ sym
-    (section-hit _ _ (outer .ranks-test .taken) (outer .before .ranks .inv .0) _ _ (λ i h. omega arith) (inner .inv .0)
+    (section-hit _ _ (outer .ranks-test .taken) (at .inv .0) (at .inv .1) _ (inner .inv .0) _ (λ i h. omega arith)
     (omega arith) (c .before .if3 .taken))
 
 pub local-request-spec : {M : Type 1} → statement M

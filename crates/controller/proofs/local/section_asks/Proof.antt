@@ -1,6 +1,4 @@
 -- `section_asks` meets its contract.
-use mathlib.Core.Path.{_≡_, sym, _∙_}
-use denote.Ref.{now}
 use borrow.Author.Needs.{needs}
 use Rattle.controller.proofs.Sections.{past-first}
 use Rattle.controller.proofs.local.section_asks.Statement.{statement}

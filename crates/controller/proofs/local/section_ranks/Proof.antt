@@ -5,16 +5,17 @@ use Prim.Native.Nat.{_≤_, _-_}
 use native.Mathlib.Omega.{arith}
 use lib.ListN.{length, drop, length-set}
 use borrow.Author.Needs.{needs}
-use Rattle.controller.proofs.Sections.{as-long, RankedTo, none-ranked, asking-ranked, silent-ranked, all-ranked}
+use Rattle.controller.specs.Asking.{Ranked}
+use Rattle.controller.proofs.Sections.{none-ranked, asking-ranked, silent-ranked}
 use Rattle.controller.proofs.local.section_ranks.Statement.{statement}
 use Rattle.controller.proofs.local.section_ranks.Tie as tie
 
 abbrev Inv-loop : tie.InvT-loop
-Inv-loop mask protection conditions ranks₀ asking₀ c₀ ranks asking c =
-    RankedTo mask (protection ∷ drop 1 conditions) ranks c asking × (length ranks ≡ 16) × (c ≤ length conditions)
+Inv-loop mask protection conditions ranks₀ past-last₀ c₀ ranks past-last c =
+    Ranked mask (protection ∷ drop 1 conditions) ranks c past-last × (length ranks ≡ 16) × (c ≤ length conditions)
 
 abbrev μ-loop : tie.MeasureT-loop
-μ-loop mask protection conditions ranks₀ asking₀ c₀ ranks asking c = length conditions - c
+μ-loop mask protection conditions ranks₀ past-last₀ c₀ ranks past-last c = length conditions - c
 
 loop-holds : tie.Need-loop-holds Inv-loop μ-loop
 loop-holds c =
@@ -46,7 +47,7 @@ loop-again : tie.Need-loop-again Inv-loop μ-loop
 loop-again c =
     let a = c .before .before .before .before .before .before .before .args in
     let at = c .before .before .before .before .loop in (
-      asking-ranked (a .mask) (a .protection ∷ drop 1 (a .conditions .now)) (at .ranks) (at .c) (at .asking) (c .before .rank-of .result)
+      asking-ranked (a .mask) (a .protection ∷ drop 1 (a .conditions .now)) (at .ranks) (at .c) (at .past-last) (c .before .rank-of .result)
           (search needs) (rw (c .before .rank-of .ensures, c .before .before .section-asks .ensures)) (at .inv .0),
       length-set (at .ranks) (at .c) (c .before .rank-of .result) ∙ at .inv .1,
       search needs,
@@ -59,7 +60,7 @@ loop-again-2 : tie.Need-loop-again-2 Inv-loop μ-loop
 loop-again-2 c =
     let a = c .before .before .before .before .before .before .before .args in
     let at = c .before .before .before .before .loop in (
-      silent-ranked (a .mask) (a .protection ∷ drop 1 (a .conditions .now)) (at .ranks) (at .c) (at .asking) (c .before .rank-of .result)
+      silent-ranked (a .mask) (a .protection ∷ drop 1 (a .conditions .now)) (at .ranks) (at .c) (at .past-last) (c .before .rank-of .result)
           (search needs) (rw (c .before .rank-of .ensures, c .before .before .section-asks .ensures)) (at .inv .0) (search needs),
       length-set (at .ranks) (at .c) (c .before .rank-of .result) ∙ at .inv .1,
       search needs,
@@ -70,12 +71,11 @@ same-length c = c .before .loop .inv .1 ∙ sym (c .before .before .before .befo
 
 returns : tie.Need-returns Inv-loop μ-loop
 returns c =
-    let a = c .before .before .before .before .args in
     let at = c .before .loop in
-    let long = as-long (a .protection) (a .conditions .now) (c .before .before .before .before .pre .0) in
     let end = c .loop-test .left in
     let most = at .inv .2 in
-    all-ranked (a .mask) (a .protection ∷ drop 1 (a .conditions .now)) (at .ranks) (at .c) (at .asking) (omega arith) (at .inv .0)
+    let whole : at .c ≡ length (c .before .before .before .before .args .conditions .now) = omega arith in
+    rw whole at (at .inv .0)
 
 pub section-ranks-spec : {M : Type 1} → statement M
 section-ranks-spec =
