@@ -4,12 +4,12 @@ use mathlib.Core.Bool.{Bool, true, false, _&&_, _||_, and-eq-true-iff, true≢fa
 use mathlib.Core.List.{List, [], _∷_, _++_}
 use mathlib.Core.Logic.{_⊎_, inl, inr, ⊎-elim}
 use mathlib.Mathlib.Data.Bool.Basic.{eq-false-of-not-eq-true}
-use Prim.Native.Nat.{ℕ, _-_, _<_, _≤_}
+use Prim.Native.Nat.{ℕ, _+_, _-_, _<_, _≤_}
 use native.Mathlib.Omega.{arith}
 use lib.Dec.{ltb, eqb}
-use borrow.Author.Tests.{ltb-true, ltb-false, eqb-true, lt-ltb, eq-eqb}
+use borrow.Author.Tests.{ltb-true, ltb-false, eqb-true, eqb-false, lt-ltb, eq-eqb, ne-eqb}
 use Rattle.basics.specs.Choice.{if_then_else_}
-use Rattle.request.specs.Order.{mayWin, better, byRank, betterOf, best, OneOf}
+use Rattle.request.specs.Order.{mayWin, better, byRank, same, turn, byTurn, betterOf, best, OneOf, Orders}
 use Rattle.request.specs.declared.Request.{Request}
 
 -- what the test 'better' says
@@ -40,12 +40,16 @@ beaten r c s d (wins, inl h) = rw (lt-ltb 0 r wins, lt-ltb s r h)
 beaten r c s d (wins, inr (e, h)) =
     rw (lt-ltb 0 r wins, eq-eqb r s e, lt-ltb c d h) (or-right (ltb s r) true refl)
 
-pub better-irreflexive : (r c : ℕ) → better r c r c ≡ false
-better-irreflexive r c = eq-false-of-not-eq-true (λ h. no (beats r c r c h))
+-- within a rank the higher number does not win
+pub tie-lost : (r c s d : ℕ) → r ≡ s → d ≤ c → better r c s d ≡ false
+tie-lost r c s d same above = eq-false-of-not-eq-true (λ h. no (beats r c s d h))
   where
-    no : Beats r c r c → ⊥
+    no : Beats r c s d → ⊥
     no (wins, inl h) = omega arith
     no (wins, inr (e, h)) = omega arith
+
+pub better-irreflexive : (r c : ℕ) → better r c r c ≡ false
+better-irreflexive r c = tie-lost r c r c refl (omega arith)
 
 pub better-transitive : (r c s d t e : ℕ) → better r c s d ≡ true → better s d t e ≡ true → better r c t e ≡ true
 better-transitive r c s d t e h k = beaten r c t e (join (beats r c s d h) (beats s d t e k))
@@ -209,20 +213,13 @@ next-asked rank xs asked above passed y one =
     let other = passed y one in
     omega arith
 
--- An order by rank: the higher rank comes first, and rank 0 before nothing. What comes first within a rank is left open.
-pub record HigherFirst (rank : Request → ℕ) (order : Request → Request → Bool) : Type 0 where
-  pub higher : (x y : Request) → rank y < rank x → order x y ≡ true
-  pub never : (x y : Request) → rank x ≡ 0 → order x y ≡ false
-  pub irreflexive : (x : Request) → order x x ≡ false
-  pub transitive : (x y z : Request) → order x y ≡ true → order y z ≡ true → order x z ≡ true
-
-module _ (rank : Request → ℕ) (order : Request → Request → Bool) (by : HigherFirst rank order)
-    (none : Request) (xs : List Request) where
+module _ (rank : Request → ℕ) (order : Request → Request → Bool) (by : Orders rank order)
+    (none : Request) (xs : List Request) (x : Request) (among : OneOf x xs) (some : rank none < rank x) where
   -- a candidate of the asked rank that comes before the others of this rank is the best
-  pub best-asked : (x : Request) → OneOf x xs → rank none < rank x → NoneAbove rank xs (rank x)
+  pub best-asked : NoneAbove rank xs (rank x)
       → ((y : Request) → OneOf y xs → rank y ≡ rank x → (y ≡ x) ⊎ (order x y ≡ true))
       → best order none xs ≡ x
-  best-asked x among some above first =
+  best-asked above first =
       best-top order (by .irreflexive) (by .transitive) none x (by .higher x none some) xs
       (λ y one. beats y one (ltb (rank y) (rank x)) refl) among
     where
@@ -233,42 +230,135 @@ module _ (rank : Request → ℕ) (order : Request → Request → Bool) (by : H
           let most = above y one in
           first y one (omega arith)
 
-  -- where no rank is left there is no request
-  pub none-asked : NoneAbove rank xs 0 → best order none xs ≡ none
-  none-asked above = best-stays order xs none (λ y one. by .never y none (let most = above y one in omega arith))
+  -- a candidate that no candidate beats is the best, as far as rank and channel go
+  pub best-only : ((y : Request) → OneOf y xs → order y x ≡ false) →
+      let found = best order none xs in (rank found ≡ rank x) × (found .channel ≡ x .channel)
+  best-only unbeaten =
+      ⊎-elim (λ same. absurd (true≢false (sym (by .higher x none some) ∙ ap (order x) (sym same) ∙ loses)))
+      (λ one. go one (ltb (rank found) (rank x)) refl) (best-one order xs none)
+    where
+      found : Request
+      found = best order none xs
 
--- the order that a table of ranks gives is one of them, in which the lower channel comes first within a rank
+      loses : order x found ≡ false
+      loses = best-above order (by .irreflexive) (by .transitive) xs none x (inr among)
+
+      go : OneOf found xs → (t : Bool) → ltb (rank found) (rank x) ≡ t
+          → (rank found ≡ rank x) × (found .channel ≡ x .channel)
+      go one true e = absurd (true≢false (sym (by .higher x found (ltb-true (rank found) (rank x) e)) ∙ loses))
+      go one false e =
+          let least = ltb-false (rank found) (rank x) e in
+          let may = lt-ltb 0 (rank found) (omega arith) in
+          ⊎-elim (λ h. absurd (true≢false (sym h ∙ unbeaten found one)))
+          (⊎-elim (λ h. absurd (true≢false (sym h ∙ loses))) (λ both. both))
+          (by .total found x may (lt-ltb 0 (rank x) (omega arith)))
+
+-- where no rank is left there is no request
+pub none-asked : (rank : Request → ℕ) (order : Request → Request → Bool) → Orders rank order
+    → (none : Request) (xs : List Request) → NoneAbove rank xs 0 → best order none xs ≡ none
+none-asked rank order by none xs above =
+    best-stays order xs none (λ y one. by .never y none (let most = above y one in omega arith))
+
+-- Orders by rank, and within a rank by a number, the lower one first: one that two requests share only if they have one
+-- channel.
+module _ (rank number : Request → ℕ) where
+  abbrev order : Request → Request → Bool
+  order x y = better (rank x) (number x) (rank y) (number y)
+
+  by-number : ((x y : Request) → number x ≡ number y → x .channel ≡ y .channel) → Orders rank order
+  by-number own =
+      record {
+        irreflexive = λ x. better-irreflexive (rank x) (number x);
+        transitive = λ x y z. better-transitive (rank x) (number x) (rank y) (number y) (rank z) (number z);
+        higher = λ x y h. beaten (rank x) (number x) (rank y) (number y) (omega arith, inl h);
+        never = λ x y h. rw h;
+        total = total;
+      }
+    where
+      total : (x y : Request) → mayWin (rank x) ≡ true → mayWin (rank y) ≡ true
+          → (order x y ≡ true) ⊎ (order y x ≡ true) ⊎ ((rank x ≡ rank y) × (x .channel ≡ y .channel))
+      total x y h k = go (eqb (rank x) (rank y)) (eqb (number x) (number y)) refl refl
+        where
+          differ : ((rank x ≡ rank y) × (number x ≡ number y) → ⊥)
+              → (order x y ≡ true) ⊎ (order y x ≡ true) ⊎ ((rank x ≡ rank y) × (x .channel ≡ y .channel))
+          differ apart =
+              ⊎-elim inl (λ after. inr (inl after))
+              (better-total (rank x) (number x) (rank y) (number y) (ltb-true 0 (rank x) h) (ltb-true 0 (rank y) k) apart)
+
+          go : (ranks numbers : Bool) → eqb (rank x) (rank y) ≡ ranks → eqb (number x) (number y) ≡ numbers
+              → (order x y ≡ true) ⊎ (order y x ≡ true) ⊎ ((rank x ≡ rank y) × (x .channel ≡ y .channel))
+          go true true e f =
+              inr (inr (eqb-true (rank x) (rank y) e, own x y (eqb-true (number x) (number y) f)))
+          go false numbers e f = differ (λ both. eqb-false (rank x) (rank y) e (both .0))
+          go true false e f = differ (λ both. eqb-false (number x) (number y) f (both .1))
+
+  -- within a rank the lower number comes first
+  pub lower-first : (x y : Request) → 0 < rank x → rank y ≡ rank x → number x < number y → order x y ≡ true
+  lower-first x y some same lower = beaten (rank x) (number x) (rank y) (number y) (some, inr (sym same, lower))
+
+-- requests of the same code and channel are one
+pub same-one : (a b : Request) → same a b ≡ true → a ≡ b
+same-one a b h =
+    let both = and-eq-true-iff (eqb (a .code) (b .code)) (eqb (a .channel) (b .channel)) .0 h in
+    let code : a .code ≡ b .code = eqb-true (a .code) (b .code) (both .0) in
+    let channel : a .channel ≡ b .channel = eqb-true (a .channel) (b .channel) (both .1) in
+    λ i. record { code = code i; channel = channel i }
+
+module _ (last : Request) where
+  pub turn-zero : (x : Request) → eqb (x .channel) 0 ≡ true → turn last x ≡ 0
+  turn-zero x zero = rw zero
+
+  pub turn-stays : (x : Request) → eqb (x .channel) 0 ≡ false → same x last ≡ true → turn last x ≡ 1
+  turn-stays x some sent = rw (some, sent)
+
+  pub turn-other : (x : Request) → eqb (x .channel) 0 ≡ false → same x last ≡ false → turn last x ≡ x .channel + 1
+  turn-other x some other = rw (some, other)
+
+  -- whose turn it can be: section 0's, the last sent one's, another section's
+  abbrev pub Turns : Request → Type 0
+  Turns x =
+      ((turn last x ≡ 0) × (x .channel ≡ 0))
+      ⊎ ((turn last x ≡ 1) × (x ≡ last) × (0 < x .channel))
+      ⊎ ((turn last x ≡ x .channel + 1) × (0 < x .channel))
+
+  pub turn-cases : (x : Request) → Turns x
+  turn-cases x = go (eqb (x .channel) 0) (same x last) refl refl
+    where
+      go : (zero stays : Bool) → eqb (x .channel) 0 ≡ zero → same x last ≡ stays → Turns x
+      go true stays e f = inl (turn-zero x e, eqb-true (x .channel) 0 e)
+      go false true e f =
+          let some = eqb-false (x .channel) 0 e in
+          inr (inl (turn-stays x e f, same-one x last f, omega arith))
+      go false false e f = let some = eqb-false (x .channel) 0 e in inr (inr (turn-other x e f, omega arith))
+
+  -- no two channels share a turn
+  pub turn-own : (x y : Request) → turn last x ≡ turn last y → x .channel ≡ y .channel
+  turn-own x y h = go (turn-cases x) (turn-cases y)
+    where
+      go : Turns x → Turns y → x .channel ≡ y .channel
+      go (inl (t, c)) (inl (u, d)) = omega arith
+      go (inl (t, c)) (inr (inl (u, is, d))) = absurd (omega arith)
+      go (inl (t, c)) (inr (inr (u, d))) = absurd (omega arith)
+      go (inr (inl (t, is, c))) (inl (u, d)) = absurd (omega arith)
+      go (inr (inl (t, is, c))) (inr (inl (u, also, d))) = ap (λ (r : Request). r .channel) (is ∙ sym also)
+      go (inr (inl (t, is, c))) (inr (inr (u, d))) = absurd (omega arith)
+      go (inr (inr (t, c))) (inl (u, d)) = absurd (omega arith)
+      go (inr (inr (t, c))) (inr (inl (u, is, d))) = absurd (omega arith)
+      go (inr (inr (t, c))) (inr (inr (u, d))) = omega arith
+
+-- what was last sent, for a section, has the turn behind section 0
+pub turn-again : (x : Request) → (x .channel ≡ 0 → ⊥) → turn x x ≡ 1
+turn-again x section =
+    turn-stays x x (ne-eqb (x .channel) 0 section)
+    (rw (eq-eqb (x .code) (x .code) refl, eq-eqb (x .channel) (x .channel) refl))
+
+-- Both orders of the paper are such orders.
 module _ (rankOf : ℕ → ℕ → ℕ) where
   abbrev rank : Request → ℕ
   rank x = rankOf (x .code) (x .channel)
 
-  pub rank-irreflexive : (x : Request) → byRank rankOf x x ≡ false
-  rank-irreflexive x = better-irreflexive (rankOf (x .code) (x .channel)) (x .channel)
+  pub rank-orders : Orders rank (byRank rankOf)
+  rank-orders = by-number rank (λ (x : Request). x .channel) (λ x y h. h)
 
-  pub rank-transitive : (x y z : Request)
-      → byRank rankOf x y ≡ true → byRank rankOf y z ≡ true → byRank rankOf x z ≡ true
-  rank-transitive x y z =
-      better-transitive (rankOf (x .code) (x .channel)) (x .channel) (rankOf (y .code) (y .channel)) (y .channel)
-      (rankOf (z .code) (z .channel)) (z .channel)
-
-  pub higher-first : HigherFirst rank (byRank rankOf)
-  higher-first =
-      record {
-        higher = λ x y h. beaten (rank x) (x .channel) (rank y) (y .channel) (omega arith, inl h);
-        never = λ x y h. rw h;
-        irreflexive = rank-irreflexive;
-        transitive = rank-transitive;
-      }
-
-  -- within a rank the lower channel comes first
-  pub lower-first : (x y : Request) → 0 < rank x → rank y ≡ rank x → x .channel < y .channel → byRank rankOf x y ≡ true
-  lower-first x y some same lower = beaten (rank x) (x .channel) (rank y) (y .channel) (some, inr (sym same, lower))
-
-  -- a candidate of the asked rank is the best, where every other of this rank has a higher channel
-  pub best-lowest : (none : Request) (xs : List Request) (x : Request) → OneOf x xs → rank none < rank x
-      → NoneAbove rank xs (rank x)
-      → ((y : Request) → OneOf y xs → rank y ≡ rank x → (y ≡ x) ⊎ (x .channel < y .channel))
-      → best (byRank rankOf) none xs ≡ x
-  best-lowest none xs x among some above lowest =
-      best-asked rank (byRank rankOf) higher-first none xs x among some above
-      (λ y one same. ⊎-elim inl (λ lower. inr (lower-first x y (omega arith) same lower)) (lowest y one same))
+  pub turn-orders : (last : Request) → Orders rank (byTurn rankOf last)
+  turn-orders last = by-number rank (turn last) (turn-own last)

@@ -1,19 +1,23 @@
 -- The front door: what is proved of the decision on ranks and channels, each theorem in full with the line that cites
 -- its proof. `rankOf` is any table of ranks.
 use mathlib.Core.Path.{_≡_}
-use mathlib.Core.Bool.{true, false}
+use mathlib.Core.Bool.{Bool, true, false}
 use mathlib.Core.List.{List}
 use mathlib.Core.Logic.{_⊎_, inr}
 use Prim.Native.Nat.{ℕ, _<_, _≤_}
 use Rattle.basics.proofs.One.{OneAnswer, one-value}
-use Rattle.request.specs.Order.{better, byRank, best, OneOf}
+use Rattle.request.specs.Order.{better, byRank, byTurn, best, OneOf, Orders}
 use Rattle.request.specs.declared.Request.{Request}
 use Rattle.request.proofs.Order.{better-irreflexive, better-transitive, better-total, never-wins}
-use Rattle.request.proofs.Order.{best-one, best-above, best-single, best-lowest, rank-irreflexive, rank-transitive}
+use Rattle.request.proofs.Order.{best-one, best-above, best-only, best-single, best-asked, rank-orders, turn-orders}
 use Rattle.request.proofs.better.Kinds as better-kinds
 use Rattle.request.proofs.better.Reads as better-fn
 use Rattle.request.proofs.better.Statement as better-statement
 use Rattle.request.proofs.better.Met as better-met
+use Rattle.request.proofs.turn.Kinds as turn-kinds
+use Rattle.request.proofs.turn.Reads as turn-fn
+use Rattle.request.proofs.turn.Statement as turn-statement
+use Rattle.request.proofs.turn.Met as turn-met
 use Rattle.request.proofs.replaces.Kinds as replaces-kinds
 use Rattle.request.proofs.replaces.Reads as replaces
 use Rattle.request.proofs.replaces.Statement as replaces-statement
@@ -39,6 +43,9 @@ use Rattle.request.proofs.selector.Met as selector-met
 -- reads it off the source; it asks nothing of the caller.)
 better-right : {M : Type 1} → better-statement.statement M
 better-right = better-met.met
+
+turn-right : {M : Type 1} → turn-statement.statement M
+turn-right = turn-met.met
 
 replaces-right : {M : Type 1} → replaces-statement.statement M
 replaces-right = replaces-met.met
@@ -69,39 +76,57 @@ total = better-total
 rank-0-right : (c s d : ℕ) → better 0 c s d ≡ false
 rank-0-right = never-wins
 
--- The best of some candidates is one of them, or what stands if there is none.
-best-right : (rankOf : ℕ → ℕ → ℕ) (candidates : List Request) (none : Request) →
-    let found = best (byRank rankOf) none candidates in (found ≡ none) ⊎ OneOf found candidates
-best-right rankOf = best-one (byRank rankOf)
+-- The best of some candidates, in whatever order, is one of them, or what stands if there is none.
+best-right : (order : Request → Request → Bool) (candidates : List Request) (none : Request) →
+    let found = best order none candidates in (found ≡ none) ⊎ OneOf found candidates
+best-right = best-one
 
--- No candidate is better than the best.
-best-complete : (rankOf : ℕ → ℕ → ℕ) (candidates : List Request) (none x : Request) → OneOf x candidates
-    → byRank rankOf x (best (byRank rankOf) none candidates) ≡ false
-best-complete rankOf candidates none x among =
-    best-above (byRank rankOf) (rank-irreflexive rankOf) (rank-transitive rankOf) candidates none x (inr among)
+-- In every order by rank that is irreflexive, transitive and total on what may win (`Orders`, of specs/Order), no candidate
+-- is better than the best.
+best-complete : (rank : Request → ℕ) (order : Request → Request → Bool) → Orders rank order
+    → (candidates : List Request) (none x : Request) → OneOf x candidates → order x (best order none candidates) ≡ false
+best-complete rank order by candidates none x among =
+    best-above order (by .irreflexive) (by .transitive) candidates none x (inr among)
+
+-- A candidate that no candidate beats is the best: it has the rank and the channel of the best.
+best-unique : (rank : Request → ℕ) (order : Request → Request → Bool) → Orders rank order
+    → (none : Request) (candidates : List Request) (x : Request) → OneOf x candidates → rank none < rank x
+    → ((y : Request) → OneOf y candidates → order y x ≡ false) →
+    let found = best order none candidates in (rank found ≡ rank x) × (found .channel ≡ x .channel)
+best-unique = best-only
 
 -- A single candidate is the best, whatever stands beside it that cannot win.
-single-right : (rankOf : ℕ → ℕ → ℕ) (none x : Request) → byRank rankOf x none ≡ true
-    → (candidates : List Request)
-    → ((y : Request) → OneOf y candidates → (y ≡ x) ⊎ (byRank rankOf y none ≡ false))
-    → OneOf x candidates → best (byRank rankOf) none candidates ≡ x
-single-right rankOf = best-single (byRank rankOf) (rank-irreflexive rankOf) (rank-transitive rankOf)
+single-right : (rank : Request → ℕ) (order : Request → Request → Bool) → Orders rank order
+    → (none x : Request) → order x none ≡ true → (candidates : List Request)
+    → ((y : Request) → OneOf y candidates → (y ≡ x) ⊎ (order y none ≡ false))
+    → OneOf x candidates → best order none candidates ≡ x
+single-right rank order by = best-single order (by .irreflexive) (by .transitive)
 
 -- Ranks may be asked for one by one, from the top: a candidate that has the asked rank, while no candidate has a higher one
--- and every other of this rank has a higher channel, is the best. (The law behind it, best-asked, leaves open what comes
--- first within a rank.)
-first-hit-right : (rankOf : ℕ → ℕ → ℕ) (none : Request) (candidates : List Request) (x : Request) →
-    let rank : Request → ℕ = λ r. rankOf (r .code) (r .channel) in
-    OneOf x candidates → rank none < rank x
+-- and it comes before every other of this rank, is the best.
+first-hit-right : (rank : Request → ℕ) (order : Request → Request → Bool) → Orders rank order
+    → (none : Request) (candidates : List Request) (x : Request) → OneOf x candidates → rank none < rank x
     → ((y : Request) → OneOf y candidates → rank y ≤ rank x)
-    → ((y : Request) → OneOf y candidates → rank y ≡ rank x → (y ≡ x) ⊎ (x .channel < y .channel))
-    → best (byRank rankOf) none candidates ≡ x
-first-hit-right = best-lowest
+    → ((y : Request) → OneOf y candidates → rank y ≡ rank x → (y ≡ x) ⊎ (order x y ≡ true))
+    → best order none candidates ≡ x
+first-hit-right = best-asked
+
+-- Both orders of the paper are such orders: by rank and channel, between the ends; by rank and turn, among local requests,
+-- whatever was last sent.
+ends-order : (rankOf : ℕ → ℕ → ℕ) → Orders (λ (r : Request). rankOf (r .code) (r .channel)) (byRank rankOf)
+ends-order = rank-orders
+
+local-order : (rankOf : ℕ → ℕ → ℕ) (last : Request)
+    → Orders (λ (r : Request). rankOf (r .code) (r .channel)) (byTurn rankOf last)
+local-order = turn-orders
 
 -- Two answers that the promise of a public function allows are equal. (`Post` is the function's `ensures`, as the checker
 -- reads it off the source.)
 better-unique : OneAnswer 0 better-kinds.ps better-kinds.r better-fn.Post
 better-unique κs args x y s t p q = one-value p q
+
+turn-unique : OneAnswer 0 turn-kinds.ps turn-kinds.r turn-fn.Post
+turn-unique κs args x y s t p q = one-value p q
 
 replaces-unique : OneAnswer 0 replaces-kinds.ps replaces-kinds.r replaces.Post
 replaces-unique κs args x y s t p q = one-value p q

@@ -1,7 +1,7 @@
 // The decision of one step, on ranks and channels alone (01, 'One step', rules 2 to 7).
 ghost use Rattle.request.specs.Bridge.{bridge, selector};
 ghost use Rattle.request.specs.Command.{replaces, fate};
-ghost use Rattle.request.specs.Order.{better};
+ghost use Rattle.request.specs.Order.{better, turn};
 ghost use Rattle.request.specs.Wait.{waitNow};
 ghost use Prim.Native.Nat.{_-_};
 ghost use mathlib.Core.Path.{_≡_};
@@ -16,6 +16,22 @@ pub fn better(rank: u8, channel: u8, rank2: u8, channel2: u8) -> bool
     ensures { λ r. ⌜ r ≡ better rank channel rank2 channel2 ⌝ }
 {
     (0 < rank) & ((rank2 < rank) | ((rank == rank2) & (channel < channel2)))
+}
+
+// Among local conditions of equal rank what was last sent stays, but section 0 wins its tie (02, d; G.873.1, 8.10).
+pub fn turn(last: Request, x: Request) -> usize
+    ensures { λ r. ⌜ r ≡ turn last x ⌝ }
+{
+    let code = x.code;
+    let channel = x.channel;
+    let code_sent = last.code;
+    let channel_sent = last.channel;
+    let on_protection = channel == 0;
+    let last_sent = (code == code_sent) & (channel == channel_sent);
+    if on_protection {
+        return 0;
+    }
+    if last_sent { 1 } else { channel as usize + 1 }
 }
 
 pub fn replaces(held: u8, given: u8) -> bool
