@@ -32,14 +32,14 @@ other-rank kind x y (inr none) other some same =
     let zero : rankOfRequest x ≡ 0 = ap rankOfRequest none ∙ none-rank in
     absurd (omega arith)
 
-held-kind : (last : Request) → OfKind isCommand (held last)
+pub held-kind : (last : Request) → OfKind isCommand (held last)
 held-kind last = go (isCommand (last .code)) refl
   where
     go : (t : Bool) → isCommand (last .code) ≡ t → OfKind isCommand (held last)
     go true e = rw e (inl e)
     go false e = rw e (inr refl)
 
-given-kind : (command c : ℕ) → OfKind isCommand (given command c)
+pub given-kind : (command c : ℕ) → OfKind isCommand (given command c)
 given-kind command c =
     choice-has (OfKind isCommand) (eqb command 2) lockout (if eqb command 3 then forced c else later) (inl refl)
     (choice-has (OfKind isCommand) (eqb command 3) (forced c) later (inl refl)

@@ -1,16 +1,18 @@
 -- Laws of the candidates for the local request.
-use mathlib.Core.Path.{_≡_, refl}
+use mathlib.Core.Path.{_≡_, refl, sym}
 use mathlib.Core.Bool.{Bool, true, false}
 use mathlib.Core.List.{List, [], _∷_}
 use mathlib.Core.Logic.{_⊎_, inl, inr, ⊎-elim}
-use Prim.Native.Nat.{ℕ}
+use Prim.Native.Nat.{ℕ, _<_, _≤_}
 use lib.Dec.{eqb}
 use Rattle.pair.specs.Request.{rankIn, rankOf}
-use Rattle.request.specs.Order.{byRank, OneOf}
+use Rattle.pair.proofs.Ranks.{rank-own}
+use Rattle.request.specs.Order.{byTurn, OneOf, Orders}
 use Rattle.request.specs.declared.Request.{Request}
-use Rattle.request.proofs.Order.{one-split, one-joined, best-one, best-above, best-single, best-top}
-use Rattle.request.proofs.Order.{rank-irreflexive, rank-transitive}
-use Rattle.controller.specs.Rules.{reverse, noRequest, conditionsFrom, candidates, localRequest, decided}
+use Rattle.request.proofs.Order.{one-split, one-joined, best-one, best-above, best-only, best-single, best-top}
+use Rattle.request.proofs.Order.{tie-lost, lower-first, turn-orders}
+use Rattle.controller.specs.Rules.{reverse, noRequest, rankOfRequest, conditionsFrom, candidates, localRequest, decided}
+use Rattle.controller.proofs.Apart.{none-rank}
 
 -- RR and NR have rank 0 in the table
 pub reverse-rank : (c : ℕ) → rankOf 0b0010 c ≡ 0
@@ -27,6 +29,17 @@ reverse-loses c near = rw (reverse-rank c)
 pub none-loses : (near : Request) → decided noRequest near ≡ near
 unfolding rankOf rankIn
 none-loses near = refl
+
+-- between the ends the lower channel wins, and ours where the channels are equal
+pub ends-lower : (far near : Request) → 0 < rankOfRequest far → rankOfRequest far ≡ rankOfRequest near
+    → far .channel < near .channel → decided far near ≡ reverse (far .channel)
+ends-lower far near some same lower =
+    rw (lower-first rankOfRequest (λ (r : Request). r .channel) far near some (sym same) lower)
+
+pub ends-ours : (far near : Request) → rankOfRequest far ≡ rankOfRequest near → near .channel ≤ far .channel
+    → decided far near ≡ near
+ends-ours far near same above =
+    rw (tie-lost (rankOfRequest far) (far .channel) (rankOfRequest near) (near .channel) same above)
 
 module _ (mask protection : ℕ) (working : List ℕ) (command wait : Request) where
   abbrev all : List Request
@@ -48,27 +61,40 @@ module _ (mask protection : ℕ) (working : List ℕ) (command wait : Request) w
   candidate-one x (inr (inr same)) =
       inr (one-joined x (conditionsFrom mask 0 (protection ∷ working)) (wait ∷ []) (inr (inl same)))
 
-  pub local-one : (localRequest mask protection working command wait ≡ noRequest)
-      ⊎ OneOf (localRequest mask protection working command wait) all
-  unfolding localRequest
-  local-one = best-one (byRank rankOf) all noRequest
+  module _ (last : Request) where
+    abbrev order : Request → Request → Bool
+    order = byTurn rankOf last
 
-  pub local-above : (x : Request) → OneOf x all
-      → byRank rankOf x (localRequest mask protection working command wait) ≡ false
-  unfolding localRequest
-  local-above x among =
-      best-above (byRank rankOf) (rank-irreflexive rankOf) (rank-transitive rankOf) all noRequest x (inr among)
+    abbrev near : Request
+    near = localRequest mask last protection working command wait
 
-  pub local-single : (x : Request) → byRank rankOf x noRequest ≡ true
-      → ((y : Request) → OneOf y all → (y ≡ x) ⊎ (byRank rankOf y noRequest ≡ false)) → OneOf x all
-      → localRequest mask protection working command wait ≡ x
-  unfolding localRequest
-  local-single x wins =
-      best-single (byRank rankOf) (rank-irreflexive rankOf) (rank-transitive rankOf) noRequest x wins all
+    by : Orders rankOfRequest order
+    by = turn-orders rankOf last
 
-  pub local-top : (x : Request) → byRank rankOf x noRequest ≡ true
-      → ((y : Request) → OneOf y all → (y ≡ x) ⊎ (byRank rankOf x y ≡ true)) → OneOf x all
-      → localRequest mask protection working command wait ≡ x
-  unfolding localRequest
-  local-top x wins =
-      best-top (byRank rankOf) (rank-irreflexive rankOf) (rank-transitive rankOf) noRequest x wins all
+    pub local-one : (near ≡ noRequest) ⊎ OneOf near all
+    unfolding localRequest
+    local-one = best-one order all noRequest
+
+    pub local-above : (x : Request) → OneOf x all → order x near ≡ false
+    unfolding localRequest
+    local-above x among = best-above order (by .irreflexive) (by .transitive) all noRequest x (inr among)
+
+    pub local-single : (x : Request) → order x noRequest ≡ true
+        → ((y : Request) → OneOf y all → (y ≡ x) ⊎ (order y noRequest ≡ false)) → OneOf x all → near ≡ x
+    unfolding localRequest
+    local-single x wins = best-single order (by .irreflexive) (by .transitive) noRequest x wins all
+
+    pub local-top : (x : Request) → order x noRequest ≡ true
+        → ((y : Request) → OneOf y all → (y ≡ x) ⊎ (order x y ≡ true)) → OneOf x all → near ≡ x
+    unfolding localRequest
+    local-top x wins = best-top order (by .irreflexive) (by .transitive) noRequest x wins all
+
+    -- a candidate that no candidate beats is the local request: ranks above 0 are one code's alone
+    pub local-only : (x : Request) → OneOf x all → 0 < rankOfRequest x
+        → ((y : Request) → OneOf y all → order y x ≡ false) → near ≡ x
+    unfolding localRequest
+    local-only x among some unbeaten =
+        let found = best-only rankOfRequest order by noRequest all x among (rw none-rank some) unbeaten in
+        let code : near .code ≡ x .code =
+        rank-own (near .code) (near .channel) (x .code) (x .channel) (rw (found .0) some) (found .0) in
+        λ i. record { code = code i; channel = found .1 i }

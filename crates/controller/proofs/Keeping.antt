@@ -14,13 +14,14 @@ use Rattle.pair.specs.Marks.{codeOf, channelOf, lineBits, mark}
 use Rattle.pair.specs.Coder.{sectionsFit, encodable}
 use Rattle.pair.specs.declared.Pair.{Pair}
 use Rattle.pair.proofs.Coding.{UsablePair, mark-none, bytes-usable}
+use Rattle.request.specs.Order.{same}
 use Rattle.request.specs.Command.{fate}
 use Rattle.request.specs.Bridge.{bridge}
 use Rattle.request.specs.declared.Request.{Request}
 use Rattle.request.proofs.Channels.{bridge-within}
 use Rattle.controller.specs.Settings.{maskFits, idleK1, idleK2, fresh, makingCase, making}
 use Rattle.controller.specs.Rules.{asked, accepting, held, kept, given, replacesHeld, inForce, isWait, waiting}
-use Rattle.controller.specs.Rules.{localRequest, decided, same, leftAfter, keepsBridge, k1Of, k2Of}
+use Rattle.controller.specs.Rules.{localRequest, decided, leftAfter, keepsBridge, k1Of, k2Of}
 use Rattle.controller.specs.Refusals.{waitFits, acceptable, conditionsFit, channelFits, refusal}
 use Rattle.controller.specs.Step.{protection, waitOf, refusedStep, answering, moved, step}
 use Rattle.controller.specs.Run.{Input, inputFits, stepBy, notRefused, run}
@@ -123,7 +124,7 @@ module _ (s : Controller) (k1 k2 : ℕ) (conditions : List ℕ) (command c : ℕ
       let new = given command c in
       let now = waitOf s last command in
       let stands = inForce (replacesHeld hold new) hold new in
-      let near = localRequest (s .mask) (protection conditions) (drop 1 conditions) stands (waiting now last) in
+      let near = localRequest (s .mask) last (protection conditions) (drop 1 conditions) stands (waiting now last) in
       let sent = decided (far .request) near in
       let fated = fate command (replacesHeld hold new) (same sent new) in
       let usable = far-usable s conditions command c well failed k1 k2 in

@@ -1,7 +1,7 @@
 -- Laws for the crates above; Theorems is the front door.
+pub mod Apart
 pub mod Candidates
-mod Apart
-mod Sections
+pub mod Sections
 mod Nest
 pub mod Usability
 pub mod Conditions
@@ -10,4 +10,5 @@ pub mod Sendable
 pub mod Sending
 pub mod Making
 pub mod Keeping
+mod Staying
 mod Theorems

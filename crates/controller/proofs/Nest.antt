@@ -1,4 +1,4 @@
--- The local request, asked for rank by rank from the top.
+-- The local request, asked for rank by rank from the top, and within a rank turn by turn.
 use mathlib.Core.Path.{_≡_, refl, sym, ap, _∙_}
 use mathlib.Core.Bool.{Bool, true, false}
 use mathlib.Core.List.{List, _∷_}
@@ -10,25 +10,19 @@ use lib.ListN.{length, getD}
 use borrow.Author.Tests.{eqb-true, eqb-false, ltb-true, ltb-false}
 use Rattle.pair.specs.Request.{rankOf}
 use Rattle.pair.proofs.Ranks.{rank-most}
-use Rattle.request.specs.Order.{byRank, OneOf}
+use Rattle.request.specs.Order.{turn, byTurn, OneOf, Orders}
 use Rattle.request.specs.declared.Request.{Request}
-use Rattle.request.proofs.Order.{NoneAbove, next-asked, HigherFirst, best-asked, none-asked, higher-first, lower-first}
+use Rattle.request.proofs.Order.{NoneAbove, next-asked, best-asked, none-asked, lower-first, turn-orders}
 use Rattle.controller.specs.Rules.{noRequest, rankOfRequest, isCommand, conditionsFrom, isWait, candidates, localRequest}
-use Rattle.controller.specs.Asking.{OfKind, asks, Ranked}
+use Rattle.controller.specs.Asking.{OfKind, asks, sectionAt, Ranked}
 use Rattle.controller.proofs.Candidates.{candidate-split, candidate-one}
-use Rattle.controller.proofs.Apart.{none-rank, other-rank, wait-no-command, no-command, no-wait, own-channel}
-use Rattle.controller.proofs.Sections.{some-section, section-one}
-
--- What comes first is the higher rank. Of the order within a rank no more is used than where a section is found.
-abbrev order : Request → Request → Bool
-order = byRank rankOf
-
-by : HigherFirst rankOfRequest order
-by = higher-first rankOf
+use Rattle.controller.proofs.Apart.{none-rank, other-rank, wait-no-command, no-command, no-wait}
+use Rattle.controller.proofs.Sections.{some-section, section-one, apart}
 
 -- What is handed in, and what is worked out of it before the ranks are asked for.
 pub record Nest : Type 0 where
   pub mask : ℕ
+  pub last : Request
   pub protection : ℕ
   pub working : List ℕ
   pub command : Request
@@ -39,6 +33,13 @@ pub record Nest : Type 0 where
   pub wait-rank : ℕ
 
 module _ (nest : Nest) where
+  -- Of the order within a rank no more is used than where a section is found.
+  abbrev order : Request → Request → Bool
+  order = byTurn rankOf (nest .last)
+
+  by : Orders rankOfRequest order
+  by = turn-orders rankOf (nest .last)
+
   abbrev sections : List ℕ
   sections = nest .protection ∷ nest .working
 
@@ -46,13 +47,13 @@ module _ (nest : Nest) where
   all = candidates (nest .mask) (nest .protection) (nest .working) (nest .command) (nest .wait)
 
   abbrev near : Request
-  near = localRequest (nest .mask) (nest .protection) (nest .working) (nest .command) (nest .wait)
+  near = localRequest (nest .mask) (nest .last) (nest .protection) (nest .working) (nest .command) (nest .wait)
 
   abbrev asksAt : ℕ → Request
   asksAt c = asks (nest .mask) sections c
 
   pub record Worked : Type 0 where
-    pub ranked : Ranked (nest .mask) sections (nest .ranks) (length sections) (nest .past-last)
+    pub ranked : Ranked (nest .mask) sections (nest .last) (nest .ranks) (length sections) (nest .past-last)
     pub command-is : nest .command-rank ≡ rankOfRequest (nest .command)
     pub wait-is : nest .wait-rank ≡ rankOfRequest (nest .wait)
 
@@ -68,35 +69,35 @@ module _ (nest : Nest) where
   unfolding localRequest
   none-found now = none-asked rankOfRequest order by noRequest all (now .above)
 
-  -- the command and the wait have other ranks than the asked one, and so has each section that was seen
+  -- the command and the wait have other ranks than the asked one, and so has whoever's turn was seen
   pub record Passed (asked : ℕ) (seen : ℕ → Type 0) : Type 0 where
     pub command-other : nest .command-rank ≡ asked → ⊥
     pub wait-other : nest .wait-rank ≡ asked → ⊥
-    pub sections-other : (i : ℕ) → seen i → getD (nest .ranks) i 0 ≡ asked → ⊥
+    pub turns-other : (t : ℕ) → seen t → getD (nest .ranks) t 0 ≡ asked → ⊥
 
   module _ (asked : ℕ) where
-    pub none-passed : (seen : ℕ → Type 0) → ((i : ℕ) → seen i → ⊥) → (nest .command-rank ≡ asked → ⊥)
+    pub none-passed : (seen : ℕ → Type 0) → ((t : ℕ) → seen t → ⊥) → (nest .command-rank ≡ asked → ⊥)
         → (nest .wait-rank ≡ asked → ⊥) → Passed asked seen
     none-passed seen none command-other wait-other =
         record {
           command-other = command-other;
           wait-other = wait-other;
-          sections-other = λ i h. absurd (none i h);
+          turns-other = λ t h. absurd (none t h);
         }
 
-    -- one section more is seen, and it has another rank
-    pub one-passed : (before after : ℕ → Type 0) (c : ℕ) → ((i : ℕ) → after i → (i ≡ c → ⊥) → before i)
-        → Passed asked before → (getD (nest .ranks) c 0 ≡ asked → ⊥) → Passed asked after
-    one-passed before after c else passed other =
+    -- one turn more is seen, and it has another rank
+    pub one-passed : (before after : ℕ → Type 0) (at : ℕ) → ((t : ℕ) → after t → (t ≡ at → ⊥) → before t)
+        → Passed asked before → (getD (nest .ranks) at 0 ≡ asked → ⊥) → Passed asked after
+    one-passed before after at else passed other =
         record {
           command-other = passed .command-other;
           wait-other = passed .wait-other;
-          sections-other = λ i h. go i h (eqb i c) refl;
+          turns-other = λ t h. go t h (eqb t at) refl;
         }
       where
-        go : (i : ℕ) → after i → (t : Bool) → eqb i c ≡ t → getD (nest .ranks) i 0 ≡ asked → ⊥
-        go i h true e = rw (eqb-true i c e) other
-        go i h false e = passed .sections-other i (else i h (eqb-false i c e))
+        go : (t : ℕ) → after t → (z : Bool) → eqb t at ≡ z → getD (nest .ranks) t 0 ≡ asked → ⊥
+        go t h true e = rw (eqb-true t at e) other
+        go t h false e = passed .turns-other t (else t h (eqb-false t at e))
 
     -- who asks for something: the command, a section, the wait
     abbrev Asker : Request → Type 0
@@ -152,63 +153,60 @@ module _ (nest : Nest) where
               absurd (other-rank isWait (nest .wait) y waits kind (rw has some) (h ∙ sym has))
           first y h (inr (inr e)) = inl e
 
-      -- a section of the asked rank is one of those that are looked at
-      looked-at : (c : ℕ) → c < length sections → rankOfRequest (asksAt c) ≡ asked → c < nest .past-last
-      looked-at c l has = go (ltb c (nest .past-last)) refl
-        where
-          go : (t : Bool) → ltb c (nest .past-last) ≡ t → c < nest .past-last
-          go true e = ltb-true c (nest .past-last) e
-          go false e =
-              let zero : asked ≡ 0 = sym has ∙ worked .ranked .others-none c (ltb-false c (nest .past-last) e) l in
-              absurd (omega arith)
-
       module _ (seen : ℕ → Type 0) (passed : Passed asked seen) where
         not-wait : (y : Request) → rankOfRequest y ≡ asked → y ≡ nest .wait → ⊥
         not-wait y h e = passed .wait-other (worked .wait-is ∙ ap rankOfRequest (sym e) ∙ h)
 
-        -- it is none of those that were seen
-        not-seen : (i : ℕ) → i < length sections → seen i → rankOfRequest (asksAt i) ≡ asked → ⊥
-        not-seen i l h has = passed .sections-other i h (worked .ranked .rank-is i l ∙ has)
+        -- a section of the asked rank is none of those whose turn was seen
+        not-seen : (i : ℕ) → i < length sections → rankOfRequest (asksAt i) ≡ asked → seen (turn (nest .last) (asksAt i)) → ⊥
+        not-seen i l has h =
+            passed .turns-other (turn (nest .last) (asksAt i)) h (worked .ranked .rank-is i l (rw has some) ∙ has)
 
-        -- where the lower sections were seen, the first hit has the lowest channel
-        pub section-hit : (c : ℕ) → ((i : ℕ) → i < c → seen i) → c < nest .past-last → getD (nest .ranks) c 0 ≡ asked
-            → near ≡ asksAt c
-        section-hit c lower h same =
-            hit (asksAt c) (candidate (asksAt c) (inr (inl (section-one (nest .mask) sections c within)))) has first
-          where
-            within : c < length sections
-            within = let inside = worked .ranked .within in omega arith
+        -- a turn that has the asked rank is a section's
+        module _ (at : ℕ) (same : getD (nest .ranks) at 0 ≡ asked) where
+          abbrev c : ℕ
+          c = sectionAt (nest .last) at
 
-            has : rankOfRequest (asksAt c) ≡ asked
-            has = sym (worked .ranked .rank-is c within) ∙ same
+          pub hit-within : c < length sections
+          hit-within = worked .ranked .section-is at (rw same some) .0
 
-            first : (y : Request) → rankOfRequest y ≡ asked → Asker y → (y ≡ asksAt c) ⊎ (order (asksAt c) y ≡ true)
-            first y h (inl e) = absurd (not-command y (passed .command-other) h e)
-            first y h (inr (inr e)) = absurd (not-wait y h e)
-            first y h (inr (inl (i, l, e))) = go (ltb i c) (ltb c i) refl refl
-              where
-                there : rankOfRequest (asksAt i) ≡ asked
-                there = ap rankOfRequest (sym e) ∙ h
+          has : rankOfRequest (asksAt c) ≡ asked
+          has = worked .ranked .section-is at (rw same some) .1 .own-rank ∙ same
 
-                go : (before after : Bool) → ltb i c ≡ before → ltb c i ≡ after
-                    → (y ≡ asksAt c) ⊎ (order (asksAt c) y ≡ true)
-                go true after f g = absurd (not-seen i l (lower i (ltb-true i c f)) there)
-                go false true f g =
-                    let higher : asksAt c .channel < y .channel =
-                    rw (
-                      e,
-                      own-channel (nest .mask) c (getD sections c 0) (rw has some),
-                      own-channel (nest .mask) i (getD sections i 0) (rw there some),
-                    ) (ltb-true c i g) in
-                    inr (lower-first rankOf (asksAt c) y (rw has some) (h ∙ sym has) higher)
-                go false false f g =
-                    let low = ltb-false i c f in
-                    let up = ltb-false c i g in
-                    let at : i ≡ c = omega arith in
-                    inl (e ∙ ap asksAt at)
+          own : turn (nest .last) (asksAt c) ≡ at
+          own = worked .ranked .section-is at (rw same some) .1 .own-turn
+
+          -- where the lower turns were seen, it comes before the others
+          before-others : ((t : ℕ) → t < at → seen t) → (i : ℕ) → i < length sections → rankOfRequest (asksAt i) ≡ asked
+              → (asksAt i ≡ asksAt c) ⊎ (order (asksAt c) (asksAt i) ≡ true)
+          before-others lower i l there = go (ltb turn-i at) (ltb at turn-i) refl refl
+            where
+              turn-i : ℕ
+              turn-i = turn (nest .last) (asksAt i)
+
+              go : (before after : Bool) → ltb turn-i at ≡ before → ltb at turn-i ≡ after
+                  → (asksAt i ≡ asksAt c) ⊎ (order (asksAt c) (asksAt i) ≡ true)
+              go true after f g = absurd (not-seen i l there (lower turn-i (ltb-true turn-i at f)))
+              go false true f g =
+                  inr (lower-first rankOfRequest (turn (nest .last)) (asksAt c) (asksAt i) (rw has some) (there ∙ sym has)
+                  (rw own (ltb-true at turn-i g)))
+              go false false f g =
+                  let low = ltb-false turn-i at f in
+                  let up = ltb-false at turn-i g in
+                  let together : turn-i ≡ at = omega arith in
+                  inl (ap asksAt (apart (nest .mask) sections (nest .last) i c (rw there some) (rw has some) (together ∙ sym own)))
+
+          pub section-hit : ((t : ℕ) → t < at → seen t) → near ≡ asksAt c
+          section-hit lower =
+              hit (asksAt c) (candidate (asksAt c) (inr (inl (section-one (nest .mask) sections c hit-within)))) has first
+            where
+              first : (y : Request) → rankOfRequest y ≡ asked → Asker y → (y ≡ asksAt c) ⊎ (order (asksAt c) y ≡ true)
+              first y h (inl e) = absurd (not-command y (passed .command-other) h e)
+              first y h (inr (inr e)) = absurd (not-wait y h e)
+              first y h (inr (inl (i, l, e))) = rw e (before-others lower i l (ap rankOfRequest (sym e) ∙ h))
 
         -- where all were seen, the next rank is asked for
-        pub next-rank : ((i : ℕ) → i < nest .past-last → seen i) → Asked (asked - 1)
+        pub next-rank : ((t : ℕ) → t < nest .past-last → seen t) → Asked (asked - 1)
         next-rank whole =
             record { above = next-asked rankOfRequest all asked (now .above) (λ y one h. other y h (asker y one)) }
           where
@@ -217,4 +215,4 @@ module _ (nest : Nest) where
             other y h (inr (inr e)) = not-wait y h e
             other y h (inr (inl (i, l, e))) =
                 let there : rankOfRequest (asksAt i) ≡ asked = ap rankOfRequest (sym e) ∙ h in
-                not-seen i l (whole i (looked-at i l there)) there
+                not-seen i l there (whole (turn (nest .last) (asksAt i)) (worked .ranked .looked-at i l (rw there some)))

@@ -1,5 +1,5 @@
 -- What the sections ask for, one by one, and the ranks of it.
-use mathlib.Core.Path.{_≡_, refl, sym, _∙_}
+use mathlib.Core.Path.{_≡_, refl, sym, ap, _∙_}
 use mathlib.Core.Bool.{Bool, true, false}
 use mathlib.Core.List.{List, [], _∷_}
 use mathlib.Core.Logic.{inl, inr}
@@ -7,13 +7,15 @@ use Prim.Native.Nat.{ℕ, zero, suc, _+_, _<_, _≤_, zero-le, suc-le-suc}
 use native.Mathlib.Nat.{add-zero, zero-add, add-suc, suc-add, le-of-suc-le-suc, not-suc-le-zero}
 use native.Mathlib.Omega.{arith}
 use lib.Dec.{eqb}
-use lib.ListN.{length, getD, set, drop}
+use lib.ListN.{length, getD, set, drop, replicate}
 use lib.Seq.{getD-set-same, getD-set-other}
-use borrow.Author.Tests.{eqb-true, eqb-false}
-use Rattle.request.specs.Order.{OneOf}
+use borrow.Author.Tests.{eqb-true, eqb-false, ne-eqb}
+use Rattle.request.specs.Order.{turn, OneOf}
 use Rattle.request.specs.declared.Request.{Request}
+use Rattle.request.proofs.Order.{Turns, turn-cases, turn-own}
 use Rattle.controller.specs.Rules.{rankOfRequest, condition, conditionsFrom}
-use Rattle.controller.specs.Asking.{asks, Ranked}
+use Rattle.controller.specs.Asking.{asks, sectionAt, Holds, Ranked}
+use Rattle.controller.proofs.Apart.{own-channel}
 
 -- where the first of some conditions is another, the rest are as they were, and as many
 pub past-first : (x : ℕ) (xs : List ℕ) (i : ℕ) → (i ≡ 0 → ⊥) → getD (x ∷ drop 1 xs) i 0 ≡ getD xs i 0
@@ -26,7 +28,7 @@ as-long x [] h = absurd (not-suc-le-zero h)
 as-long x (y ∷ xs) h = refl
 
 module _ (mask : ℕ) where
-  conditions-asked : (y : Request) (i : ℕ) (xs : List ℕ) → OneOf y (conditionsFrom mask i xs)
+  pub conditions-asked : (y : Request) (i : ℕ) (xs : List ℕ) → OneOf y (conditionsFrom mask i xs)
       → (k : ℕ) × (k < length xs) × (y ≡ condition mask (i + k) (getD xs k 0))
   conditions-asked y i [] h = absurd h
   conditions-asked y i (x ∷ xs) (inl same) = (0, suc-le-suc zero-le, rw (add-zero i) same)
@@ -49,40 +51,118 @@ module _ (mask : ℕ) where
   pub section-one : (xs : List ℕ) (c : ℕ) → c < length xs → OneOf (asks mask xs c) (conditionsFrom mask 0 xs)
   section-one xs c h = rw (zero-add c) at (asked-conditions 0 xs c h)
 
-module _ (mask : ℕ) (conditions : List ℕ) where
-  pub none-ranked : (ranks : List ℕ) → Ranked mask conditions ranks 0 0
-  none-ranked ranks =
+zeros : (m t : ℕ) → getD (replicate {A = ℕ} m 0) t 0 ≡ 0
+zeros zero t = refl
+zeros (suc m) zero = refl
+zeros (suc m) (suc t) = zeros m t
+
+-- what a section asks for: its turn, and the section whose turn that is
+module _ (mask : ℕ) (conditions : List ℕ) (last : Request) where
+  abbrev asksAt : ℕ → Request
+  asksAt c = asks mask conditions c
+
+  abbrev turnAt : ℕ → ℕ
+  turnAt c = turn last (asksAt c)
+
+  channel-at : (c : ℕ) → 0 < rankOfRequest (asksAt c) → asksAt c .channel ≡ c
+  channel-at c = own-channel mask c (getD conditions c 0)
+
+  -- sections have turns of their own
+  pub apart : (i c : ℕ) → 0 < rankOfRequest (asksAt i) → 0 < rankOfRequest (asksAt c) → turnAt i ≡ turnAt c → i ≡ c
+  apart i c some some′ h =
+      sym (channel-at i some) ∙ turn-own last (asksAt i) (asksAt c) h ∙ channel-at c some′
+
+  pub turn-within : (c : ℕ) → 0 < rankOfRequest (asksAt c) → turnAt c ≤ c + 1
+  turn-within c some = go (turn-cases last (asksAt c))
+    where
+      own : asksAt c .channel ≡ c
+      own = channel-at c some
+
+      go : Turns last (asksAt c) → turnAt c ≤ c + 1
+      go (inl (t, on-0)) = omega (arith, own)
+      go (inr (inl (t, is, on))) = omega (arith, own)
+      go (inr (inr (t, on))) = omega (arith, own)
+
+  section-back : (c : ℕ) → 0 < rankOfRequest (asksAt c) → sectionAt last (turnAt c) ≡ c
+  section-back c some = go (turn-cases last (asksAt c))
+    where
+      own : asksAt c .channel ≡ c
+      own = channel-at c some
+
+      go : Turns last (asksAt c) → sectionAt last (turnAt c) ≡ c
+      go (inl (t, on-0)) = rw t (sym on-0 ∙ own)
+      go (inr (inl (t, is, on))) = rw t (ap (λ (r : Request). r .channel) (sym is) ∙ own)
+      go (inr (inr (t, on))) = rw t (rw (ne-eqb (asksAt c .channel + 1) 1 (omega arith)) (omega (arith, own)))
+
+  pub none-ranked : Ranked mask conditions last (replicate 16 0) 0 0
+  none-ranked =
       record {
         rank-is = λ i h. absurd (not-suc-le-zero h);
-        others-none = λ i l h. absurd (not-suc-le-zero h);
+        looked-at = λ i h. absurd (not-suc-le-zero h);
+        section-is = λ t h. absurd (not-suc-le-zero (rw (zeros 16 t) at h));
         within = zero-le;
       }
 
-  module _ (ranks : List ℕ) (c past-last rank : ℕ) (room : c < length ranks)
-      (here : rank ≡ rankOfRequest (asks mask conditions c)) (before : Ranked mask conditions ranks c past-last) where
-    rank-next : (i : ℕ) → i < c + 1 → getD (set ranks c rank) i 0 ≡ rankOfRequest (asks mask conditions i)
-    rank-next i h = go (eqb i c) refl
-      where
-        go : (t : Bool) → eqb i c ≡ t → getD (set ranks c rank) i 0 ≡ rankOfRequest (asks mask conditions i)
-        go true e = rw (eqb-true i c e) (getD-set-same ranks c rank 0 room ∙ here)
-        go false e =
-            let other : i ≡ c → ⊥ = eqb-false i c e in
-            getD-set-other ranks c i rank 0 other ∙ before .rank-is i (omega arith)
-
-    -- section c asks
-    pub asking-ranked : Ranked mask conditions (set ranks c rank) (c + 1) (c + 1)
-    asking-ranked =
-        record { rank-is = rank-next; others-none = λ i l h. absurd (omega arith); within = omega arith }
-
-    -- or it does not
-    pub silent-ranked : rank ≡ 0 → Ranked mask conditions (set ranks c rank) (c + 1) past-last
+  module _ (ranks : List ℕ) (c past-last : ℕ) (before : Ranked mask conditions last ranks c past-last) where
+    -- section c asks for nothing
+    pub silent-ranked : rankOfRequest (asksAt c) ≡ 0 → Ranked mask conditions last ranks (c + 1) past-last
     silent-ranked silent =
         record {
-          rank-is = rank-next;
-          others-none = λ i l h. go i l h (eqb i c) refl;
-          within = let within = before .within in omega arith;
+          rank-is = λ i h some. before .rank-is i (earlier i h some) some;
+          looked-at = λ i h some. before .looked-at i (earlier i h some) some;
+          section-is = λ t some. let held = before .section-is t some in (omega arith, held .1);
+          within = let inside = before .within in omega arith;
         }
       where
-        go : (i : ℕ) → past-last ≤ i → i < c + 1 → (t : Bool) → eqb i c ≡ t → rankOfRequest (asks mask conditions i) ≡ 0
-        go i l h true e = rw (eqb-true i c e) (sym here ∙ silent)
-        go i l h false e = let other : i ≡ c → ⊥ = eqb-false i c e in before .others-none i l (omega arith)
+        earlier : (i : ℕ) → i < c + 1 → 0 < rankOfRequest (asksAt i) → i < c
+        earlier i h some = go (eqb i c) refl
+          where
+            go : (t : Bool) → eqb i c ≡ t → i < c
+            go true e =
+                let zero : rankOfRequest (asksAt i) ≡ 0 = rw (eqb-true i c e) silent in
+                absurd (omega arith)
+            go false e = let other = eqb-false i c e in omega arith
+
+    -- section c asks, and its rank is stored at its turn
+    module _ (some : 0 < rankOfRequest (asksAt c)) (room : turnAt c < length ranks) (past : ℕ)
+        (later : past-last ≤ past) (behind : turnAt c + 1 ≤ past) (bound : past ≤ c + 2) where
+      abbrev stored : List ℕ
+      stored = set ranks (turnAt c) (rankOfRequest (asksAt c))
+
+      pub asking-ranked : Ranked mask conditions last stored (c + 1) past
+      asking-ranked =
+          record {
+            rank-is = λ i h ask. rank-next i h ask (eqb i c) refl;
+            looked-at = λ i h ask. looked-next i h ask (eqb i c) refl;
+            section-is = λ t held. section-next t held (eqb t (turnAt c)) refl;
+            within = omega arith;
+          }
+        where
+          rank-next : (i : ℕ) → i < c + 1 → 0 < rankOfRequest (asksAt i) → (t : Bool) → eqb i c ≡ t
+              → getD stored (turnAt i) 0 ≡ rankOfRequest (asksAt i)
+          rank-next i h ask true e =
+              rw (eqb-true i c e) (getD-set-same ranks (turnAt c) (rankOfRequest (asksAt c)) 0 room)
+          rank-next i h ask false e =
+              let other : i ≡ c → ⊥ = eqb-false i c e in
+              getD-set-other ranks (turnAt c) (turnAt i) (rankOfRequest (asksAt c)) 0 (λ same. other (apart i c ask some same))
+              ∙ before .rank-is i (omega arith) ask
+
+          looked-next : (i : ℕ) → i < c + 1 → 0 < rankOfRequest (asksAt i) → (t : Bool) → eqb i c ≡ t → turnAt i < past
+          looked-next i h ask true e = rw (eqb-true i c e) (omega arith)
+          looked-next i h ask false e =
+              let other : i ≡ c → ⊥ = eqb-false i c e in
+              let looked = before .looked-at i (omega arith) ask in
+              omega arith
+
+          section-next : (t : ℕ) → 0 < getD stored t 0 → (z : Bool) → eqb t (turnAt c) ≡ z
+              → (sectionAt last t < c + 1) × Holds mask conditions last (getD stored t 0) t
+          section-next t held true e =
+              let back = section-back c some in
+              rw (eqb-true t (turnAt c) e, getD-set-same ranks (turnAt c) (rankOfRequest (asksAt c)) 0 room) (
+                omega arith,
+                record { own-turn = ap turnAt back; own-rank = ap (λ (k : ℕ). rankOfRequest (asksAt k)) back },
+              )
+          section-next t held false e =
+              let same = getD-set-other ranks (turnAt c) t (rankOfRequest (asksAt c)) 0 (eqb-false t (turnAt c) e) in
+              let kept = before .section-is t (rw same at held) in
+              rw same (omega arith, kept .1)

@@ -12,7 +12,7 @@ use Rattle.pair.specs.Marks.{codeOf, channelOf, mark}
 use Rattle.pair.proofs.Rows.{heldIn, carries-0, carried-within}
 use Rattle.pair.proofs.Coding.{unmarked}
 use Rattle.request.specs.Wait.{waitNow}
-use Rattle.request.specs.Order.{byRank}
+use Rattle.request.specs.Order.{byRank, byTurn}
 use Rattle.request.specs.declared.Request.{Request}
 use Rattle.request.proofs.Order.{choice-has, each-append, best-has}
 use Rattle.controller.specs.Settings.{idleK1, idleK2}
@@ -49,7 +49,7 @@ module _ (s : Controller) (conditions : List ℕ) (command c : ℕ) (given-well 
   stands = inForce (replacesHeld hold new) hold new
 
   abbrev near : Request
-  near = localRequest (s .mask) (protection conditions) (drop 1 conditions) stands (waiting now last)
+  near = localRequest (s .mask) last (protection conditions) (drop 1 conditions) stands (waiting now last)
 
   abbrev Able : Request → Type 0
   Able r = Sendable (s .n) (s .mask) now r
@@ -165,7 +165,7 @@ module _ (s : Controller) (conditions : List ℕ) (command c : ℕ) (given-well 
       let all = protection conditions ∷ drop 1 conditions in
       let room : 0 + length all ≤ s .n + 1 = omega (arith, working-number) in
       let sections = conditions-sendable (s .n) (s .mask) now all 0 room in
-      best-has (byRank rankOf) Able
+      best-has (byTurn rankOf last) Able
       (candidates (s .mask) (protection conditions) (drop 1 conditions) stands (waiting now last))
       noRequest
       (none-sendable (s .n) (s .mask) now) (

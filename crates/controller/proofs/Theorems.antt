@@ -3,26 +3,30 @@ use mathlib.Core.Path.{_≡_, refl}
 use mathlib.Core.Bool.{true, false}
 use mathlib.Core.List.{List}
 use mathlib.Core.Logic.{_↔_, _⊎_}
-use Prim.Native.Nat.{ℕ, _+_}
+use Prim.Native.Nat.{ℕ, _+_, _<_, _≤_}
+use lib.ListN.{getD}
 use Rattle.basics.specs.First.{appliesAt, FirstAt}
 use Rattle.basics.proofs.First.{first-exact, none-exact}
 use Rattle.basics.proofs.One.{OneAnswer, one-value, one-case}
 use Rattle.basics.proofs.Table.{every}
 use Rattle.pair.specs.Request.{listed, carries, rankIn, rankOf}
 use Rattle.pair.specs.Marks.{lineBits, mark}
-use Rattle.request.specs.Order.{byRank, best, OneOf}
+use Rattle.request.specs.Order.{byRank, byTurn, best, OneOf}
 use Rattle.request.specs.declared.Request.{Request}
 use Rattle.controller.specs.Settings.{makingCase, making}
-use Rattle.controller.specs.Rules.{reverse, noRequest, accepting, candidates, localRequest, decided}
+use Rattle.controller.specs.Rules.{reverse, noRequest, rankOfRequest, accepting, condition, candidates, localRequest}
+use Rattle.controller.specs.Rules.{decided, k1Of}
 use Rattle.controller.specs.Refusals.{acceptable, conditionsFit, stepFaults, refusal}
-use Rattle.controller.specs.Step.{refusedStep, moved, step}
-use Rattle.controller.specs.Run.{Input, inputFits, notRefused, run}
+use Rattle.controller.specs.Step.{protection, refusedStep, moved, step}
+use Rattle.controller.specs.Run.{Input, inputFits, stepBy, candidatesIn, acceptedIn, notRefused, run}
 use Rattle.controller.specs.Sequences.{isRight, sequences}
 use Rattle.controller.specs.declared.Controller.{Controller}
 use Rattle.controller.specs.declared.Made.the-variants as made
-use Rattle.controller.proofs.Candidates.{reverse-loses, none-loses, local-one, local-above, local-single}
+use Rattle.controller.proofs.Candidates.{reverse-loses, none-loses, ends-lower, ends-ours}
+use Rattle.controller.proofs.Candidates.{local-one, local-above, local-only, local-single}
 use Rattle.controller.proofs.Inputs.{faults-counted}
 use Rattle.controller.proofs.Keeping.{step-refused, step-keeps, made-acceptable, made-run-unrefused}
+use Rattle.controller.proofs.Staying.{stays}
 use Rattle.controller.proofs.Controller.fresh.Kinds as fresh-kinds
 use Rattle.controller.proofs.Controller.fresh.Reads as fresh-fn
 use Rattle.controller.proofs.Controller.fresh.Statement as fresh-statement
@@ -135,23 +139,55 @@ run-complete : (n mask w : ℕ) (s : Controller) → makingCase (making n mask w
     → (inputs : List Input) → every (inputFits n) inputs ≡ true → every notRefused (run s inputs) ≡ true
 run-complete = made-run-unrefused
 
--- The local request is NR 0 or one of the candidates; no candidate is better; and a single candidate is it, whatever
--- stands beside it that cannot win.
-local-right : (mask protection : ℕ) (working : List ℕ) (command wait : Request) →
-    let found = localRequest mask protection working command wait in
+-- The local request is NR 0 or one of the candidates; no candidate is better, by rank and then by turn; a candidate that no
+-- candidate beats is it; and so is a single candidate, whatever stands beside it that cannot win. (That this order is
+-- irreflexive, transitive and total on what may win, and the laws of such orders, are at the front door of `request`.)
+local-right : (mask protection : ℕ) (working : List ℕ) (command wait last : Request) →
+    let found = localRequest mask last protection working command wait in
     (found ≡ noRequest) ⊎ OneOf found (candidates mask protection working command wait)
 local-right = local-one
 
-local-complete : (mask protection : ℕ) (working : List ℕ) (command wait x : Request)
+local-complete : (mask protection : ℕ) (working : List ℕ) (command wait last x : Request)
     → OneOf x (candidates mask protection working command wait)
-    → byRank rankOf x (localRequest mask protection working command wait) ≡ false
+    → byTurn rankOf last x (localRequest mask last protection working command wait) ≡ false
 local-complete = local-above
 
-single-right : (mask protection : ℕ) (working : List ℕ) (command wait x : Request) → byRank rankOf x noRequest ≡ true
+local-unique : (mask protection : ℕ) (working : List ℕ) (command wait last x : Request)
+    → OneOf x (candidates mask protection working command wait) → 0 < rankOfRequest x
+    → ((y : Request) → OneOf y (candidates mask protection working command wait) → byTurn rankOf last y x ≡ false)
+    → localRequest mask last protection working command wait ≡ x
+local-unique = local-only
+
+single-right : (mask protection : ℕ) (working : List ℕ) (command wait last x : Request)
+    → byTurn rankOf last x noRequest ≡ true
     → ((y : Request) → OneOf y (candidates mask protection working command wait)
-    → (y ≡ x) ⊎ (byRank rankOf y noRequest ≡ false))
-    → OneOf x (candidates mask protection working command wait) → localRequest mask protection working command wait ≡ x
+    → (y ≡ x) ⊎ (byTurn rankOf last y noRequest ≡ false))
+    → OneOf x (candidates mask protection working command wait)
+    → localRequest mask last protection working command wait ≡ x
 single-right = local-single
+
+-- First come stays (02, d): a step sends what section c asks for; in the next step the section keeps its condition, no
+-- candidate has a higher rank, section 0 does not ask at the same rank, and the request that is accepted, whatever pair was
+-- received, does not win. Then the same K1 is sent again.
+stays-right : (s : Controller) (i j : Input) (c : ℕ) →
+    let o = stepBy s i in
+    let next = stepBy (o .controller) j in
+    let x = condition (s .mask) c (getD (i .conditions) c 0) in
+    o .refusal ≡ 0 → next .refusal ≡ 0
+    → 0 < rankOfRequest x → o .k1 ≡ k1Of x
+    → getD (j .conditions) c 0 ≡ getD (i .conditions) c 0
+    → ((y : Request) → OneOf y (candidatesIn (o .controller) j) → rankOfRequest y ≤ rankOfRequest x)
+    → (rankOfRequest (condition (s .mask) 0 (protection (j .conditions))) ≡ rankOfRequest x → ⊥)
+    → byRank rankOf (acceptedIn (o .controller) j) x ≡ false
+    → next .k1 ≡ o .k1
+stays-right = stays
+
+-- Between the ends nobody stays: of two requests of equal rank the accepted one wins by a lower channel, and the local one
+-- otherwise, whatever was last sent.
+ends-right : (far near : Request) → 0 < rankOfRequest far → rankOfRequest far ≡ rankOfRequest near
+    → (far .channel < near .channel → decided far near ≡ reverse (far .channel))
+    × (near .channel ≤ far .channel → decided far near ≡ near)
+ends-right far near some same = (ends-lower far near some same, ends-ours far near same)
 
 -- RR and NR never win: against them the local request is sent.
 reverse-right : (c : ℕ) (near : Request) → decided (reverse c) near ≡ near

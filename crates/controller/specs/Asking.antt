@@ -3,8 +3,11 @@ use mathlib.Core.Path.{_≡_}
 use mathlib.Core.Bool.{Bool, true}
 use mathlib.Core.List.{List}
 use mathlib.Core.Logic.{_⊎_}
-use Prim.Native.Nat.{ℕ, _<_, _≤_}
+use Prim.Native.Nat.{ℕ, _+_, _-_, _<_, _≤_}
+use lib.Dec.{eqb}
 use lib.ListN.{getD}
+use Rattle.basics.specs.Choice.{if_then_else_}
+use Rattle.request.specs.Order.{turn}
 use Rattle.request.specs.declared.Request.{Request}
 use Rattle.controller.specs.Rules.{noRequest, rankOfRequest, condition}
 
@@ -16,8 +19,21 @@ OfKind kind x = (kind (x .code) ≡ true) ⊎ (x ≡ noRequest)
 abbrev pub asks : ℕ → List ℕ → ℕ → Request
 asks mask conditions c = condition mask c (getD conditions c 0)
 
--- of the sections before c: the ranks are of what they ask for, and those from `past-last` on ask for nothing
-pub record Ranked (mask : ℕ) (conditions ranks : List ℕ) (c past-last : ℕ) : Type 0 where
-  pub rank-is : (i : ℕ) → i < c → getD ranks i 0 ≡ rankOfRequest (asks mask conditions i)
-  pub others-none : (i : ℕ) → past-last ≤ i → i < c → rankOfRequest (asks mask conditions i) ≡ 0
-  pub within : past-last ≤ c
+-- the section whose turn it is: section 0, the one that was last sent for, the others from 1 up
+abbrev pub sectionAt : Request → ℕ → ℕ
+sectionAt last t = if eqb t 1 then last .channel else t - 1
+
+-- a place holds the rank of what the section asks for whose turn it is
+pub record Holds (mask : ℕ) (conditions : List ℕ) (last : Request) (rank t : ℕ) : Type 0 where
+  pub own-turn : turn last (asks mask conditions (sectionAt last t)) ≡ t
+  pub own-rank : rankOfRequest (asks mask conditions (sectionAt last t)) ≡ rank
+
+-- of the sections before c: each that asks for something has its rank at its turn, before `past-last`; no other place has one
+pub record Ranked (mask : ℕ) (conditions : List ℕ) (last : Request) (ranks : List ℕ) (c past-last : ℕ) : Type 0 where
+  pub rank-is : (i : ℕ) → i < c → 0 < rankOfRequest (asks mask conditions i)
+      → getD ranks (turn last (asks mask conditions i)) 0 ≡ rankOfRequest (asks mask conditions i)
+  pub looked-at : (i : ℕ) → i < c → 0 < rankOfRequest (asks mask conditions i)
+      → turn last (asks mask conditions i) < past-last
+  pub section-is : (t : ℕ) → 0 < getD ranks t 0
+      → (sectionAt last t < c) × Holds mask conditions last (getD ranks t 0) t
+  pub within : past-last ≤ c + 1

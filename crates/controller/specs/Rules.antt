@@ -7,7 +7,7 @@ use Rattle.basics.specs.Choice.{if_then_else_}
 use Rattle.pair.specs.Request.{lockoutCode, forcedCode, failHighCode, failLowCode, degradeHighCode, degradeLowCode}
 use Rattle.pair.specs.Request.{manualCode, waitCode, reverseCode, nothingCode, rankOf}
 use Rattle.pair.specs.Marks.{codeOf, channelOf, bridgedOf, mark}
-use Rattle.request.specs.Order.{byRank, best}
+use Rattle.request.specs.Order.{byRank, byTurn, best}
 use Rattle.request.specs.Command.{replaces}
 use Rattle.request.specs.declared.Request.{Request}
 use Rattle.controller.specs.Settings.{high, idleK1, idleK2}
@@ -121,21 +121,18 @@ abbrev pub candidates : ℕ → ℕ → List ℕ → Request → Request → Lis
 candidates mask protection working command wait =
     command ∷ conditionsFrom mask 0 (protection ∷ working) ++ (wait ∷ [])
 
--- the best by rank, then by channel; NR 0 where nobody asks for anything
-unfoldable pub localRequest : ℕ → ℕ → List ℕ → Request → Request → Request
-localRequest mask protection working command wait =
-    best (byRank rankOf) noRequest (candidates mask protection working command wait)
+-- the best by rank, then by turn: what was last sent stays (02, d); NR 0 where nobody asks for anything
+unfoldable pub localRequest : ℕ → Request → ℕ → List ℕ → Request → Request → Request
+localRequest mask last protection working command wait =
+    best (byTurn rankOf last) noRequest (candidates mask protection working command wait)
 
--- 4. Decision. A request of the far end that beats ours is answered by RR; otherwise ours goes out.
+-- 4. Decision, by rank, then by channel. A request of the far end that beats ours is answered by RR; otherwise ours goes out.
 abbrev pub decided : Request → Request → Request
 decided far near = if byRank rankOf far near then reverse (far .channel) else near
 
 -- 5. After. An unsent command is forgotten by itself, since the next step reads the held one off the K1 of this one; whether
--- a new command was sent decides its fate (request, Command).
-abbrev pub same : Request → Request → Bool
-same a b = eqb (a .code) (b .code) && eqb (a .channel) (b .channel)
-
--- the wait goes on with WTR alone
+-- a new command was sent, by `same` code and channel, decides its fate (request, Order and Command). The wait goes on with
+-- WTR alone.
 abbrev pub leftAfter : Request → ℕ → ℕ
 leftAfter sent now = if isWait (sent .code) then now else 0
 

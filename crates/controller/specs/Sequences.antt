@@ -1,4 +1,4 @@
--- The sequences P1 to P13 of document 01: n = 2, mask 0, W = 3, conditions good, no command unless given.
+-- The sequences P1 to P13 of document 01, P13 as 02, d has it: n = 2, mask 0, W = 3, conditions good, no command unless given.
 use mathlib.Core.Bool.{Bool, _&&_}
 use mathlib.Core.List.{List, [], _∷_}
 use Prim.Native.Nat.{ℕ}
@@ -122,5 +122,5 @@ sequences =
     ∷ (p11 answers sends 0xC1 0x08 ∷ [])
     ∷ (p11′ answers sends 0xD2 0x08 ∷ [])
     ∷ (p12 answers sends 0xA2 0x08 ∷ mark 3 ∷ [])
-    ∷ (p13 answers sends 0xC1 0x08 ∷ [])
+    ∷ (p13 answers sends 0xC2 0x08 ∷ [])
     ∷ []

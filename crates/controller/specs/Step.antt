@@ -4,12 +4,13 @@ use Prim.Native.Nat.{ℕ}
 use lib.Dec.{eqb}
 use lib.ListN.{getD, drop}
 use Rattle.basics.specs.Choice.{if_then_else_}
+use Rattle.request.specs.Order.{same}
 use Rattle.request.specs.Command.{fate}
 use Rattle.request.specs.Wait.{waitNow}
 use Rattle.request.specs.Bridge.{bridge, selector}
 use Rattle.request.specs.declared.Request.{Request}
 use Rattle.controller.specs.Rules.{asked, accepting, held, isClear, kept, given, replacesHeld, inForce}
-use Rattle.controller.specs.Rules.{isWait, entersWait, waiting, localRequest, decided, same}
+use Rattle.controller.specs.Rules.{isWait, entersWait, waiting, localRequest, decided}
 use Rattle.controller.specs.Rules.{leftAfter, keepsBridge, k1Of, k2Of}
 use Rattle.controller.specs.Refusals.{refusal}
 use Rattle.controller.specs.declared.Controller.{Controller}
@@ -62,7 +63,7 @@ moved s k1 k2 conditions command c =
     let new = given command c in
     let replaced = replacesHeld hold new in
     let now = waitOf s last command in
-    let near = localRequest (s .mask) protect (drop 1 conditions) (inForce replaced hold new) (waiting now last) in
+    let near = localRequest (s .mask) last protect (drop 1 conditions) (inForce replaced hold new) (waiting now last) in
     let sent = decided (far .request) near in
     answering s far sent now (fate command replaced (same sent new))
 

@@ -21,8 +21,9 @@ use request::fate;
 use request::selector;
 ghost use Prim.Native.Nat.{_≤_};
 ghost use Rattle.controller.specs.Refusals.{refusal};
-ghost use Rattle.controller.specs.Rules.{keepsBridge, same};
+ghost use Rattle.controller.specs.Rules.{keepsBridge};
 ghost use Rattle.controller.specs.Step.{refusedStep, answering, moved};
+ghost use Rattle.request.specs.Order.{same};
 ghost use mathlib.Core.Path.{_≡_};
 
 pub(crate) fn refused_step(k: u8, s: Controller) -> Outcome
@@ -98,7 +99,7 @@ pub(crate) fn moved(s: Controller, k1: u8, k2: u8, conditions: &[u8], command: u
     let in_force = in_force(replaced, hold, new);
     let now = wait_of(s, last, command);
     let wait = waiting(now, last);
-    let near = local_request(s.mask, protect, conditions, in_force, wait);
+    let near = local_request(s.mask, last, protect, conditions, in_force, wait);
     let heard = far.request;
     let sent = decided(heard, near);
     let fate = fate(command, replaced, same(sent, new));

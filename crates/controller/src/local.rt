@@ -5,13 +5,15 @@ use crate::codes::REVERSE;
 use crate::section::condition;
 use request::Request;
 use request::better;
+use request::turn;
 ghost use Prim.Native.Nat.{_≤_, _<_};
-ghost use Rattle.controller.specs.Asking.{OfKind, asks, Ranked};
+ghost use Rattle.controller.specs.Asking.{OfKind, asks, sectionAt, Ranked};
 ghost use Rattle.controller.specs.Rules.{isCommand, isWait, localRequest, decided};
 ghost use Rattle.pair.specs.Request.{rankOf};
 ghost use Rattle.request.specs.Order.{byRank};
-ghost use lib.ListN.{length, drop};
+ghost use lib.ListN.{length, drop, replicate};
 ghost use mathlib.Core.List.{_∷_};
+ghost use mathlib.Core.Logic.{_⊎_};
 ghost use mathlib.Core.Path.{_≡_};
 
 // What section c asks for; the condition of section 0 is handed in apart.
@@ -26,38 +28,66 @@ fn section_asks(mask: u16, protection: u8, conditions: &[u8], c: u8) -> Request
     }
 }
 
-// The rank of what each section asks for, worked out once a step, and the place behind the last section that asks.
-fn section_ranks(mask: u16, protection: u8, conditions: &[u8], ranks: &mut [u8]) -> u8
-    requires { ⌜ (1 ≤ length (now conditions)) × (length (now conditions) ≤ 16) × (length (now ranks) ≡ 16) ⌝ }
-    ensures { λ r. ⌜ Ranked mask (protection ∷ drop 1 (now (conditions .entry))) (now (ranks .exit)) (length (now (conditions .entry))) r ⌝ }
+// The later of two places.
+fn later(a: usize, b: usize) -> usize
+    ensures { λ r. ⌜ (a ≤ r) × (b ≤ r) × ((r ≡ a) ⊎ (r ≡ b)) ⌝ }
 {
-    let mut past_last: u8 = 0;
+    if a < b { b } else { a }
+}
+
+// The rank of what each section asks for, worked out once a step, at its turn; and the place behind the last of them.
+fn section_ranks(
+    mask: u16,
+    protection: u8,
+    conditions: &[u8],
+    last: Request,
+    ranks: &mut [u8],
+) -> usize
+    requires { ⌜ (1 ≤ length (now conditions)) × (length (now conditions) ≤ 15) × (now ranks ≡ replicate 16 0) ⌝ }
+    ensures { λ r. ⌜ Ranked mask (protection ∷ drop 1 (now (conditions .entry))) last (now (ranks .exit)) (length (now (conditions .entry))) r ⌝ }
+{
+    let mut past_last: usize = 0;
     let mut c: u8 = 0;
     while (c as usize) < conditions.len() {
-        let rank = rank_of(section_asks(mask, protection, conditions, c));
-        ranks[c as usize] = rank;
+        let asked = section_asks(mask, protection, conditions, c);
+        let rank = rank_of(asked);
         c += 1;
         if 0 < rank {
-            past_last = c;
+            let at = turn(last, asked);
+            ranks[at] = rank;
+            past_last = later(past_last, at + 1);
         }
     }
     past_last
 }
 
-// The higher rank, then the lower channel (01, rule 3): so the first hit is the answer. Command and wait may come before the
-// sections: no two of the three kinds share a rank, since each rank above 0 is one code's alone.
+// The section whose turn it is.
+fn section_at(last: Request, at: usize) -> u8
+    requires { ⌜ at ≤ 16 ⌝ }
+    ensures { λ r. ⌜ r ≡ sectionAt last at ⌝ }
+{
+    if at == 1 {
+        return last.channel;
+    }
+    if 0 < at { (at - 1) as u8 } else { 0 }
+}
+
+// The higher rank, then the turn (01, rule 3; 02, d): section 0, the section whose request was last sent, the others from 1 up.
+// So the first hit is the answer. Command and wait may come before the sections: no two of the three kinds share a rank, since
+// each rank above 0 is one code's alone.
 pub(crate) fn local_request(
     mask: u16,
+    last: Request,
     protection: u8,
     conditions: &[u8],
     command: Request,
     wait: Request,
 ) -> Request
-    requires { ⌜ (1 ≤ length (now conditions)) × (length (now conditions) ≤ 16) × OfKind isCommand command × OfKind isWait wait ⌝ }
-    ensures { λ r. ⌜ r ≡ localRequest mask protection (drop 1 (now (conditions .entry))) command wait ⌝ }
+    requires { ⌜ (1 ≤ length (now conditions)) × (length (now conditions) ≤ 15) × OfKind isCommand command × OfKind isWait wait ⌝ }
+    ensures { λ r. ⌜ r ≡ localRequest mask last protection (drop 1 (now (conditions .entry))) command wait ⌝ }
 {
     let mut ranks = [0u8; 16];
-    let past_last = section_ranks(mask, protection, conditions, &mut ranks);
+    let past_last = section_ranks(mask, protection, conditions, last, &mut ranks);
     let command_rank = rank_of(command);
     let wait_rank = rank_of(wait);
     let mut found = NO_REQUEST;
@@ -71,14 +101,14 @@ pub(crate) fn local_request(
             found = wait;
             break;
         }
-        // Sections from `past_last` on ask for nothing.
-        let mut c: u8 = 0;
-        while c < past_last {
-            if ranks[c as usize] == rank {
-                found = section_asks(mask, protection, conditions, c);
+        // Turn by turn; from `past_last` on nobody asks for anything.
+        let mut at: usize = 0;
+        while at < past_last {
+            if ranks[at] == rank {
+                found = section_asks(mask, protection, conditions, section_at(last, at));
                 break 'ranks;
             }
-            c += 1;
+            at += 1;
         }
         rank -= 1;
     }

@@ -29,7 +29,7 @@ sentOf c =
     let new = given (a .command) (a .c) in
     let wait = waiting (waitOf (a .s) last (a .command)) last in
     decided (accepting (a .s) (eqb protect 2) (a .k1) (a .k2) .request)
-    (localRequest (a .s .mask) protect (drop 1 (a .conditions .now)) (inForce (replacesHeld hold new) hold new) wait)
+    (localRequest (a .s .mask) last protect (drop 1 (a .conditions .now)) (inForce (replacesHeld hold new) hold new) wait)
 
 -- whether the new command has replaced the held one
 weighed : (c : tie.After-in-force) →

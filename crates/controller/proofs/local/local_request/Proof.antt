@@ -1,4 +1,4 @@
--- `local_request` meets its contract: no candidate has a rank above the asked one, and no section before this one has it.
+-- `local_request` meets its contract: no candidate has a rank above the asked one, and nobody whose turn came before has it.
 use mathlib.Core.Path.{_≡_, refl, sym, _∙_}
 use mathlib.Core.List.{List}
 use Prim.Native.Nat.{ℕ, _-_, _<_}
@@ -9,14 +9,15 @@ use Rattle.request.specs.declared.Request.{Request}
 use Rattle.controller.specs.Rules.{noRequest}
 use Rattle.controller.proofs.Sections.{as-long}
 use Rattle.controller.proofs.Nest.{Nest, Worked, Asked, Passed, first-asked, none-found, none-passed, one-passed}
-use Rattle.controller.proofs.Nest.{command-hit, wait-hit, section-hit, next-rank}
+use Rattle.controller.proofs.Nest.{command-hit, wait-hit, hit-within, section-hit, next-rank}
 use Rattle.controller.proofs.local.local_request.Statement.{statement}
 use Rattle.controller.proofs.local.local_request.Tie as tie
 
-abbrev nestOf : ℕ → ℕ → List ℕ → Request → Request → List ℕ → ℕ → ℕ → ℕ → Nest
-nestOf mask protection conditions command wait ranks past-last command-rank wait-rank =
+abbrev nestOf : ℕ → Request → ℕ → List ℕ → Request → Request → List ℕ → ℕ → ℕ → ℕ → Nest
+nestOf mask last protection conditions command wait ranks past-last command-rank wait-rank =
     record {
       mask = mask;
+      last = last;
       protection = protection;
       working = drop 1 conditions;
       command = command;
@@ -28,26 +29,26 @@ nestOf mask protection conditions command wait ranks past-last command-rank wait
     }
 
 abbrev Inv-ranks : tie.InvT-ranks
-Inv-ranks mask protection conditions command wait ranks past-last command-rank wait-rank found₀ rank₀ found rank =
-    let nest = nestOf mask protection conditions command wait ranks past-last command-rank wait-rank in
+Inv-ranks mask last protection conditions command wait ranks past-last command-rank wait-rank found₀ rank₀ found rank =
+    let nest = nestOf mask last protection conditions command wait ranks past-last command-rank wait-rank in
     Worked nest × Asked nest rank × (found ≡ noRequest)
 
 abbrev μ-ranks : tie.MeasureT-ranks
-μ-ranks mask protection conditions command wait ranks past-last command-rank wait-rank found₀ rank₀ found rank = rank
+μ-ranks mask last protection conditions command wait ranks past-last command-rank wait-rank found₀ rank₀ found rank = rank
 
 abbrev Inv-loop : tie.InvT-loop
-Inv-loop mask protection conditions command wait ranks past-last command-rank wait-rank found₀ rank c₀ found c =
-    Passed (nestOf mask protection conditions command wait ranks past-last command-rank wait-rank) rank (λ (i : ℕ). i < c)
+Inv-loop mask last protection conditions command wait ranks past-last command-rank wait-rank found₀ rank at₀ found at =
+    Passed (nestOf mask last protection conditions command wait ranks past-last command-rank wait-rank) rank (λ (t : ℕ). t < at)
     × (found ≡ found₀)
 
 abbrev μ-loop : tie.MeasureT-loop
-μ-loop mask protection conditions command wait ranks past-last command-rank wait-rank found₀ rank c₀ found c = past-last - c
+μ-loop mask last protection conditions command wait ranks past-last command-rank wait-rank found₀ rank at₀ found at = past-last - at
 
 slice-aggregate-section-ranks : tie.Need-slice-aggregate-section-ranks Inv-loop μ-loop Inv-ranks μ-ranks
 slice-aggregate-section-ranks c = search needs
 
 section-ranks-requires : tie.Need-section-ranks-requires Inv-loop μ-loop Inv-ranks μ-ranks
-section-ranks-requires c κs = search needs
+section-ranks-requires c κs = let pre = c .before .before .pre in (pre .0, pre .1, refl)
 
 rank-of-requires : tie.Need-rank-of-requires Inv-loop μ-loop Inv-ranks μ-ranks
 rank-of-requires c κs = search needs
@@ -69,10 +70,7 @@ ranks-holds c =
     )
 
 loop-holds : tie.Need-loop-holds Inv-loop μ-loop Inv-ranks μ-ranks
-loop-holds c = (none-passed _ _ _ (λ i h. omega arith) (c .before .if1 .left) (c .if2 .left), refl)
-
-cast-if3 : tie.Need-cast-if3 Inv-loop μ-loop Inv-ranks μ-ranks
-cast-if3 c = search needs
+loop-holds c = (none-passed _ _ _ (λ t h. omega arith) (c .before .if1 .left) (c .if2 .left), refl)
 
 array-read-if3 : tie.Need-array-read-if3 Inv-loop μ-loop Inv-ranks μ-ranks
 array-read-if3 c =
@@ -83,17 +81,22 @@ array-read-if3 c =
     let looked = c .loop-test .taken in
     omega arith
 
+section-at-requires : tie.Need-section-at-requires Inv-loop μ-loop Inv-ranks μ-ranks
+section-at-requires c κs = let room = array-read-if3 (c .before) in omega arith
+
 section-asks-requires : tie.Need-section-asks-requires Inv-loop μ-loop Inv-ranks μ-ranks
 section-asks-requires c κs =
-    let start = c .before .before .before .before .before .before .before .before .before .before .before .before .before in
+    let start = c .before .before .before .before .before .before .before .before .before .before .before .before .before .before in
     let long = as-long (start .args .protection) (start .args .conditions .now) (start .pre .0) in
-    let room = start .pre .1 in
-    let inside = c .before .before .before .before .before .before .ranks .inv .0 .ranked .within in
-    let looked = c .before .loop-test .taken in
-    omega arith
+    let outer = c .before .before .before .before .before .before in
+    let at = outer .before .ranks in
+    let within =
+    hit-within _ _ (outer .ranks-test .taken) (at .inv .0) (at .inv .1) _ (c .before .before .before .loop .inv .0) _
+    (c .before .if3 .taken) in
+    rw (c .section-at .ensures) (omega arith)
 
-add-c : tie.Need-add-c Inv-loop μ-loop Inv-ranks μ-ranks
-add-c c = search needs
+add-at : tie.Need-add-at Inv-loop μ-loop Inv-ranks μ-ranks
+add-at c = let room = array-read-if3 (c .before) in omega arith
 
 loop-less : tie.Need-loop-less Inv-loop μ-loop Inv-ranks μ-ranks
 loop-less c = search needs
@@ -101,7 +104,7 @@ loop-less c = search needs
 loop-again : tie.Need-loop-again Inv-loop μ-loop Inv-ranks μ-ranks
 loop-again c =
     let inner = c .before .before .loop in
-    (one-passed _ _ _ _ _ (λ i h other. omega arith) (inner .inv .0) (c .if3 .left), inner .inv .1)
+    (one-passed _ _ _ _ _ (λ t h other. omega arith) (inner .inv .0) (c .if3 .left), inner .inv .1)
 
 sub-rank : tie.Need-sub-rank Inv-loop μ-loop Inv-ranks μ-ranks
 sub-rank c = search needs
@@ -115,7 +118,7 @@ ranks-again c =
     let inner = c .before .loop in
     let end = c .loop-test .left in (
       at .inv .0,
-      next-rank _ _ (c .before .before .before .before .ranks-test .taken) (at .inv .0) (at .inv .1) _ (inner .inv .0) (λ i h. omega arith),
+      next-rank _ _ (c .before .before .before .before .ranks-test .taken) (at .inv .0) (at .inv .1) _ (inner .inv .0) (λ t h. omega arith),
       inner .inv .1 ∙ at .inv .2,
     )
 
@@ -141,14 +144,12 @@ returns-3 c =
 
 returns-4 : tie.Need-returns-4 Inv-loop μ-loop Inv-ranks μ-ranks
 returns-4 c =
-    let inner = c .before .before .before .loop in
-    let looked = c .before .before .loop-test .taken in
-    let outer = c .before .before .before .before .before .before in
+    let outer = c .before .before .before .before .before .before .before in
     let at = outer .before .ranks in
-    c .section-asks .ensures
-    ∙ sym
-    (section-hit _ _ (outer .ranks-test .taken) (at .inv .0) (at .inv .1) _ (inner .inv .0) _ (λ i h. omega arith)
-    (omega arith) (c .before .if3 .taken))
+    rw (c .section-asks .ensures, c .before .section-at .ensures)
+    (sym
+    (section-hit _ _ (outer .ranks-test .taken) (at .inv .0) (at .inv .1) _ (c .before .before .before .before .loop .inv .0) _
+    (c .before .before .if3 .taken) (λ t h. omega arith)))
 
 pub local-request-spec : {M : Type 1} → statement M
 local-request-spec =
@@ -164,10 +165,10 @@ local-request-spec =
     rank-of-requires-2
     ranks-holds
     loop-holds
-    cast-if3
     array-read-if3
+    section-at-requires
     section-asks-requires
-    add-c
+    add-at
     loop-less
     loop-again
     sub-rank
