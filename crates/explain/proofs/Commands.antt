@@ -7,9 +7,10 @@ use lib.Dec.{leb, eqb, lit≤}
 use borrow.Author.Tests.{eqb-true, le-leb, eq-eqb, ne-eqb}
 use Rattle.pair.specs.Request.{requests, carries, channel-0, a-section, rankIn, rankOf}
 use Rattle.pair.proofs.Rows.{heldIn, carried-within}
+use Rattle.request.specs.Order.{same}
 use Rattle.request.specs.declared.Request.{Request}
-use Rattle.request.proofs.Order.{or-true, or-right}
-use Rattle.controller.specs.Rules.{request, noRequest, rankOfRequest, isCommand, held, isClear, given, replacesHeld, same}
+use Rattle.request.proofs.Order.{or-true, or-right, same-one}
+use Rattle.controller.specs.Rules.{request, rankOfRequest, isCommand, held, isClear, given, replacesHeld}
 use Rattle.controller.specs.Refusals.{channelFits}
 use Rattle.explain.specs.Cause.{commanded}
 use Rattle.explain.proofs.Ranking.{section-rank, on-section, on-protection}
@@ -23,13 +24,6 @@ command-cases code h =
     (or-true (eqb code 0b1111) (eqb code 0b1110) two))
     (λ ms. inr (inr (eqb-true code 0b1000 ms)))
     (or-true (eqb code 0b1111 || eqb code 0b1110) (eqb code 0b1000) h)
-
-same-eq : (a b : Request) → same a b ≡ true → a ≡ b
-same-eq a b h =
-    let both = and-eq-true-iff (eqb (a .code) (b .code)) (eqb (a .channel) (b .channel)) .0 h in
-    let code : a .code ≡ b .code = eqb-true (a .code) (b .code) (both .0) in
-    let channel : a .channel ≡ b .channel = eqb-true (a .channel) (b .channel) (both .1) in
-    λ i. record { code = code i; channel = channel i }
 
 -- a request of the table that is a command: its number, and its rank
 pub record Command (n : ℕ) (x : Request) : Type 0 where
@@ -89,7 +83,7 @@ commanded-by hold x h = go (isCommand (x .code)) refl
     go true e =
         let sent : not (eqb (x .code) 0b0000) && (same x hold || replacesHeld hold x) ≡ true = rw e at h in
         let which = and-eq-true-iff (not (eqb (x .code) 0b0000)) (same x hold || replacesHeld hold x) .0 sent .1 in
-        (e, ⊎-elim (λ s. inl (same-eq x hold s)) inr (or-true (same x hold) (replacesHeld hold x) which))
+        (e, ⊎-elim (λ s. inl (same-one x hold s)) inr (or-true (same x hold) (replacesHeld hold x) which))
     go false e = absurd (false≢true (rw e at h))
 
 -- and put together
@@ -107,21 +101,3 @@ commanded-of hold x e how = rw e (rw (some, which how))
         eq-eqb (x .channel) (hold .channel) (ap (λ (r : Request). r .channel) is) in
         rw (code, channel)
     which (inr takes) = rw takes (or-right (same x hold) true refl)
-
--- what is held is a command, or NR 0; and so is what is given
-pub held-cases : (last : Request) → (held last ≡ noRequest) ⊎ (isCommand (held last .code) ≡ true)
-held-cases last = go (isCommand (last .code)) refl
-  where
-    go : (t : Bool) → isCommand (last .code) ≡ t → (held last ≡ noRequest) ⊎ (isCommand (held last .code) ≡ true)
-    go true e = inr (rw e e)
-    go false e = inl (rw e)
-
-pub given-cases : (command c : ℕ) → (given command c ≡ noRequest) ⊎ (isCommand (given command c .code) ≡ true)
-given-cases command c = go (eqb command 2) (eqb command 3) (eqb command 4) refl refl refl
-  where
-    go : (lo fs ms : Bool) → eqb command 2 ≡ lo → eqb command 3 ≡ fs → eqb command 4 ≡ ms
-        → (given command c ≡ noRequest) ⊎ (isCommand (given command c .code) ≡ true)
-    go true fs ms e f g = inr (rw e)
-    go false true ms e f g = inr (rw (e, f))
-    go false false true e f g = inr (rw (e, f, g))
-    go false false false e f g = inl (rw (e, f, g))

@@ -12,19 +12,20 @@ use lib.ListN.{length, drop}
 use borrow.Author.Tests.{leb-true, eqb-true, lt-ltb, le-ltb, ne-eqb}
 use Rattle.pair.specs.Request.{requests, carries, rankIn, rankOf}
 use Rattle.pair.proofs.Rows.{heldIn, carried-within}
-use Rattle.request.specs.Order.{byRank, OneOf}
+use Rattle.request.specs.Order.{byTurn, OneOf}
 use Rattle.request.specs.Wait.{waitNow}
 use Rattle.request.specs.declared.Request.{Request}
-use Rattle.request.proofs.Order.{or-true}
+use Rattle.request.proofs.Order.{or-true, turn-orders}
 use Rattle.controller.specs.Settings.{high}
 use Rattle.controller.specs.Rules.{request, noRequest, rankOfRequest}
 use Rattle.controller.specs.Rules.{isCommand, held, isClear, kept, given, replacesHeld, inForce, condition, conditionsFrom}
-use Rattle.controller.specs.Rules.{isFailOrDegrade, isWait, entersWait, waiting, candidates, localRequest, same}
+use Rattle.controller.specs.Rules.{isFailOrDegrade, isWait, entersWait, waiting, candidates, localRequest}
 use Rattle.controller.specs.Refusals.{conditionsFit, channelFits}
 use Rattle.controller.specs.Step.{protection}
+use Rattle.controller.proofs.Apart.{none-rank}
 use Rattle.controller.proofs.Candidates.{candidate-split, candidate-one, local-one, local-top}
 use Rattle.explain.specs.Cause.{commanded, conditioned, waited, arises, unseen}
-use Rattle.explain.proofs.Ranking.{above, none-rank, wins, section-rank, on-section, on-protection, rank-cases}
+use Rattle.explain.proofs.Ranking.{section-rank, on-section, on-protection, rank-cases}
 use Rattle.explain.proofs.Ranking.{fail-rank, degrade-rank}
 use Rattle.explain.proofs.Commands.{command-cases, a-command, commanded-by}
 use Rattle.explain.proofs.Single.{only, only-length, only-fit, only-whole, only-good, only-one, only-there}
@@ -57,7 +58,7 @@ module _ (mask w left : ℕ) (last : Request) where
   -- the local request, as the rules have it
   abbrev pub nearOf : List ℕ → ℕ → ℕ → Request
   nearOf conditions command c =
-      localRequest mask (protection conditions) (drop 1 conditions) (standsOf command c) (waiting (nowOf command) last)
+      localRequest mask last (protection conditions) (drop 1 conditions) (standsOf command c) (waiting (nowOf command) last)
 
   -- some cause makes x the local request, with section 0 failed or not
   pub record Local (n : ℕ) (failed : Bool) (x : Request) : Type 0 where
@@ -72,9 +73,9 @@ module _ (mask w left : ℕ) (last : Request) where
   abbrev Under : Request → Request → Type 0
   Under x y = (y ≡ x) ⊎ (rankOfRequest y < rankOfRequest x)
 
-  under : (x y : Request) → Under x y → (y ≡ x) ⊎ (byRank rankOf x y ≡ true)
+  under : (x y : Request) → Under x y → (y ≡ x) ⊎ (byTurn rankOf last x y ≡ true)
   under x y (inl same) = inl same
-  under x y (inr below) = inr (above x y below)
+  under x y (inr below) = inr (turn-orders rankOf last .higher x y below)
 
   none-under : (x : Request) → 0 < rankOfRequest x → Under x noRequest
   none-under x h = inr (rw none-rank h)
@@ -116,7 +117,8 @@ module _ (mask w left : ℕ) (last : Request) where
         → (x ≡ standsOf command channel) ⊎ (x ≡ condition mask c v) ⊎ (x ≡ wait)
         → nearOf conds command channel ≡ x
     near-top x some stands section waits source =
-        local-top mask (protection conds) (drop 1 conds) (standsOf command channel) wait x (wins x some)
+        local-top mask (protection conds) (drop 1 conds) (standsOf command channel) wait last x
+        (turn-orders rankOf last .higher x noRequest (rw none-rank some))
         (λ y among. under x y (below y (sources y among)))
         (candidate-one mask (protection conds) (drop 1 conds) (standsOf command channel) wait x (one source))
       where
@@ -140,7 +142,7 @@ module _ (mask w left : ℕ) (last : Request) where
         → nearOf conds command channel ≡ noRequest
     near-none stands section waits =
         ⊎-elim (λ e. e) (λ among. none (nearOf conds command channel) (sources (nearOf conds command channel) among))
-        (local-one mask (protection conds) (drop 1 conds) (standsOf command channel) wait)
+        (local-one mask (protection conds) (drop 1 conds) (standsOf command channel) wait last)
       where
         none : (y : Request)
             → (y ≡ standsOf command channel) ⊎ ((y ≡ noRequest) ⊎ (y ≡ condition mask c v)) ⊎ (y ≡ wait) → y ≡ noRequest

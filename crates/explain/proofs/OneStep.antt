@@ -10,12 +10,12 @@ use borrow.Author.Tests.{ltb-true, eqb-true, eq-eqb, not-true}
 use Rattle.pair.specs.Request.{requests, carries, rankOf}
 use Rattle.request.specs.Order.{mayWin, byRank}
 use Rattle.request.specs.declared.Request.{Request}
-use Rattle.request.proofs.Order.{or-true, or-right}
+use Rattle.request.proofs.Order.{or-true, or-right, rank-orders}
 use Rattle.controller.specs.Rules.{noRequest, rankOfRequest, held, decided}
 use Rattle.controller.specs.Step.{protection}
+use Rattle.controller.proofs.Apart.{none-rank}
 use Rattle.controller.proofs.Candidates.{none-loses}
 use Rattle.explain.specs.Cause.{commanded, arises, unseen, answers}
-use Rattle.explain.proofs.Ranking.{wins}
 use Rattle.explain.proofs.Local.{Fits, nowOf, nearOf, Local, no-local, arises-local, unseen-local}
 use Rattle.explain.proofs.Source.{local-arises, local-unseen}
 
@@ -104,7 +104,7 @@ module _ (n mask w left : ℕ) (last : Request) where
       let one = and-eq-true-iff (eqb (x .code) 0b0010) (mayWin (rankOfRequest far)) .0 (two .0) in
       let code : x .code ≡ 0b0010 = eqb-true (x .code) 0b0010 (one .0) in
       let channel : far .channel ≡ x .channel = eqb-true (far .channel) (x .channel) (two .1) in
-      let better = wins far (ltb-true 0 (rankOfRequest far) (one .1)) in
+      let better = rank-orders rankOf .higher far noRequest (rw none-rank (ltb-true 0 (rankOfRequest far) (one .1))) in
       decided-by false far x noRequest (no-local mask w left last n)
       (rw better (λ i. record { code = sym code i; channel = channel i })))
       (λ local.

@@ -4,26 +4,11 @@ use mathlib.Core.Bool.{Bool, true, false, and-eq-true-iff, false≢true}
 use Prim.Native.Nat.{ℕ, _≤_, _<_}
 use native.Mathlib.Omega.{arith}
 use lib.Dec.{leb, eqb, lit<}
-use borrow.Author.Tests.{eqb-true, eqb-false, lt-ltb, ne-eqb}
+use borrow.Author.Tests.{eqb-true, eqb-false, ne-eqb}
 use Rattle.pair.specs.Request.{requests, carries, channel-0, a-section, rankIn, rankOf}
 use Rattle.pair.proofs.Rows.{heldIn, carries-0, carries-section}
-use Rattle.request.specs.Order.{byRank}
-use Rattle.request.specs.declared.Request.{Request}
 use Rattle.controller.specs.Settings.{high}
-use Rattle.controller.specs.Rules.{rankOfRequest, noRequest, failCode, degradeCode}
-
--- the higher rank wins
-pub above : (x y : Request) → rankOfRequest y < rankOfRequest x → byRank rankOf x y ≡ true
-above x y h =
-    let some : 0 < rankOfRequest x = omega arith in
-    rw (lt-ltb 0 (rankOfRequest x) some, lt-ltb (rankOfRequest y) (rankOfRequest x) h)
-
-pub none-rank : rankOfRequest noRequest ≡ 0
-unfolding rankOf rankIn
-none-rank = refl
-
-pub wins : (x : Request) → 0 < rankOfRequest x → byRank rankOf x noRequest ≡ true
-wins x h = above x noRequest (rw none-rank h)
+use Rattle.controller.specs.Rules.{failCode, degradeCode}
 
 -- the rank on a section
 pub section-rank : (code c : ℕ) → 1 ≤ c → rankOf code c ≡ rankIn requests a-section code

@@ -1,27 +1,29 @@
 -- Where a local request comes from: the closed form holds of it by its source, whatever the conditions and the command are.
 use mathlib.Core.Path.{_≡_, refl, sym, ap, subst, _∙_}
 use mathlib.Core.Bool.{Bool, true, false, _&&_, _||_, false≢true, true≢false}
-use mathlib.Core.List.{List, [], _∷_}
+use mathlib.Core.List.{List, _∷_}
 use mathlib.Core.Logic.{_⊎_, inl, inr, ⊎-elim}
-use Prim.Native.Nat.{ℕ, suc, _≤_, _<_}
+use Prim.Native.Nat.{ℕ, _+_, _≤_, _<_}
 use native.Mathlib.Omega.{arith}
 use lib.Dec.{ltb, eqb, lit<}
-use lib.ListN.{drop}
+use lib.ListN.{getD, drop}
 use borrow.Author.Tests.{ltb-true, ltb-false, eqb-true, eqb-false, le-leb, eq-eqb}
 use Rattle.basics.specs.Choice.{if_then_else_}
 use Rattle.pair.specs.Request.{requests, channel-0, a-section, rankIn, rankOf}
-use Rattle.request.specs.Order.{byRank, OneOf}
+use Rattle.request.specs.Order.{byTurn, OneOf}
 use Rattle.request.specs.declared.Request.{Request}
-use Rattle.request.proofs.Order.{or-right}
+use Rattle.request.proofs.Order.{or-right, turn-orders}
 use Rattle.controller.specs.Settings.{high}
 use Rattle.controller.specs.Rules.{noRequest, rankOfRequest, isCommand, held, isClear, given, replacesHeld, failCode, degradeCode}
-use Rattle.controller.specs.Rules.{condition, conditionsFrom, waiting, same}
+use Rattle.controller.specs.Rules.{condition, conditionsFrom, waiting}
 use Rattle.controller.specs.Step.{protection}
+use Rattle.controller.proofs.Apart.{none-rank, held-kind, given-kind}
 use Rattle.controller.proofs.Candidates.{candidate-split, local-one, local-above}
+use Rattle.controller.proofs.Sections.{conditions-asked}
 use Rattle.explain.specs.Cause.{commanded, conditioned, waited, arises, unseen}
-use Rattle.explain.proofs.Ranking.{above, none-rank, section-rank, rank-cases, fail-rank}
+use Rattle.explain.proofs.Ranking.{section-rank, rank-cases, fail-rank}
 use Rattle.explain.proofs.Local.{standsOf, nowOf, wait-unclear, nearOf, Local, wait-below}
-use Rattle.explain.proofs.Commands.{command-cases, commanded-by, commanded-of, held-cases, given-cases}
+use Rattle.explain.proofs.Commands.{command-cases, commanded-by, commanded-of}
 
 -- of the four parts of the closed form one is enough
 one-part : (a b c d : Bool) → (a ≡ true) ⊎ (b ≡ true) ⊎ (c ≡ true) ⊎ (d ≡ true) → a || b || c || d ≡ true
@@ -48,9 +50,9 @@ module _ (mask w left : ℕ) (last : Request) where
       new = given command c
 
       chosen : (t : Bool) → replacesHeld (held last) new ≡ t → ByCommand (if t then new else held last)
-      chosen true e = ⊎-elim inl (λ is. inr (commanded-of (held last) new is (inr e))) (given-cases command c)
+      chosen true e = ⊎-elim (λ is. inr (commanded-of (held last) new is (inr e))) inl (given-kind command c)
       chosen false e =
-          ⊎-elim inl (λ is. inr (commanded-of (held last) (held last) is (inl refl))) (held-cases last)
+          ⊎-elim (λ is. inr (commanded-of (held last) (held last) is (inl refl))) inl (held-kind last)
 
       go : (t : Bool) → isClear command ≡ t → ByCommand (standsOf mask w left last command c)
       go true e = let one : command ≡ 1 = eqb-true command 1 e in inl (rw one)
@@ -89,13 +91,6 @@ module _ (mask w left : ℕ) (last : Request) where
           rw e (inr (rw (eq-eqb (last .channel) (last .channel) refl, le-leb 1 (nowOf mask w left last 0) runs)))
       go false e = rw e (inl refl)
 
-  some-section : (x : Request) (i : ℕ) (conditions : List ℕ) → OneOf x (conditionsFrom mask i conditions)
-      → (c : ℕ) × (v : ℕ) × (i ≤ c) × (x ≡ condition mask c v)
-  some-section x i [] h = absurd h
-  some-section x i (v ∷ rest) (inl e) = (i, v, omega arith, e)
-  some-section x i (v ∷ rest) (inr among) =
-      let (c, v, h, e) = some-section x (suc i) rest among in (c, v, omega arith, e)
-
   -- the source of a local request: none, the command, section 0, a section, the wait
   module _ (conditions : List ℕ) (command c : ℕ) where
     abbrev near : Request
@@ -119,13 +114,15 @@ module _ (mask w left : ℕ) (last : Request) where
     source =
         ⊎-elim inl
         (λ among. go (candidate-split mask (protection conditions) (drop 1 conditions) stands wait near among))
-        (local-one mask (protection conditions) (drop 1 conditions) stands wait)
+        (local-one mask (protection conditions) (drop 1 conditions) stands wait last)
       where
         go : (near ≡ stands) ⊎ OneOf near (conditionsFrom mask 0 (protection conditions ∷ drop 1 conditions)) ⊎ (near ≡ wait)
             → Source near
         go (inl e) = inr (inl e)
         go (inr (inl (inl e))) = inr (inr (inl e))
-        go (inr (inl (inr later))) = inr (inr (inr (inl (some-section near 1 (drop 1 conditions) later))))
+        go (inr (inl (inr later))) =
+            let (k, within, e) = conditions-asked mask near 1 (drop 1 conditions) later in
+            inr (inr (inr (inl (1 + k, getD (drop 1 conditions) k 0, omega arith, e))))
         go (inr (inr e)) = inr (inr (inr (inr e)))
 
     abbrev Part : Request → Type 0
@@ -216,10 +213,10 @@ module _ (mask w left : ℕ) (last : Request) where
         go true e =
             let all =
             local-above mask (protection conditions) (drop 1 conditions) (standsOf mask w left last command c)
-            (waiting (nowOf mask w left last command) last) in
-            let wins = above (condition mask 0 2) found (ltb-true (rankOfRequest found) 9 e) in
+            (waiting (nowOf mask w left last command) last) last in
+            let wins = turn-orders rankOf last .higher (condition mask 0 2) found (ltb-true (rankOfRequest found) 9 e) in
             let loses = all (condition mask 0 (protection conditions)) (inr (inl refl)) in
-            absurd (true≢false (sym wins ∙ ap (λ (v : ℕ). byRank rankOf (condition mask 0 v) found) (sym failed) ∙ loses))
+            absurd (true≢false (sym wins ∙ ap (λ (v : ℕ). byTurn rankOf last (condition mask 0 v) found) (sym failed) ∙ loses))
         go false e = ltb-false (rankOfRequest found) 9 e
 
     hidden : (x : Request) → 9 ≤ rankOfRequest x → Source conditions command c x → unseen (commanded (held last) (held x)) x ≡ true

@@ -3,9 +3,9 @@ use mathlib.Core.Bool.{Bool, not, _&&_, _||_}
 use Prim.Native.Nat.{ℕ}
 use lib.Dec.{leb, eqb}
 use Rattle.pair.specs.Request.{lockoutCode, failHighCode, reverseCode, nothingCode, rankOf}
-use Rattle.request.specs.Order.{mayWin, byRank}
+use Rattle.request.specs.Order.{mayWin, byRank, same}
 use Rattle.request.specs.declared.Request.{Request}
-use Rattle.controller.specs.Rules.{rankOfRequest, replacesHeld, condition, isWait, same}
+use Rattle.controller.specs.Rules.{rankOfRequest, replacesHeld, condition, isWait}
 
 -- a command was held before, or replaces the one that was
 abbrev pub follows : Request → Request → Bool
