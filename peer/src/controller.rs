@@ -2,7 +2,8 @@
 //! the making of a fresh record can meet (paper: "Numbered refusals").
 //!
 //! Between two steps an end knows no more than its [`Record`]. So the command it
-//! holds, and the section it waits for, are read back from the K1 last sent.
+//! holds, the section it waits for, and the one that stays among its equals, are
+//! read back from the K1 last sent.
 
 use crate::pair::{self, Request};
 use std::cmp::Reverse;
@@ -213,8 +214,9 @@ impl K1 {
     }
 }
 
-/// Greater is better: of equal ranks the lower channel wins (paper: "One step",
-/// rules 3 and 4; G.873.1, 8.10).
+/// Greater is better between the ends. Of equal ranks the lower channel wins, even
+/// over one that came first, so that both ends come to the same (paper: "One step",
+/// rule 4; 02 d; G.873.1, 8.10).
 fn standing(code: u8, channel: u8) -> (u8, Reverse<u8>) {
     (pair::rank(code, channel), Reverse(channel))
 }
@@ -362,7 +364,8 @@ impl<'a> Step<'a> {
         }
     }
 
-    /// Rule 3: the best candidate.
+    /// Rule 3: the best candidate. Only conditions can be of equal rank, so every
+    /// tie is one of theirs.
     fn local_request(&self, command: Option<K1>, wait: u16) -> K1 {
         let waiting = K1 {
             request: Request::WaitToRestore,
@@ -373,8 +376,17 @@ impl<'a> Step<'a> {
             .filter_map(|(section, &condition)| self.condition_request(section, condition))
             .chain(command)
             .chain((wait > 0).then_some(waiting))
-            .max_by_key(|candidate| candidate.standing())
+            .max_by_key(|&candidate| self.local_standing(candidate))
             .unwrap_or(K1::NO_REQUEST)
+    }
+
+    /// Greater is better at this end. Of equal ranks the one last sent stays, since
+    /// a switch already made is not taken away by its equal (paper: 02 d; G.873.1,
+    /// 8.10). Section 0 counts as if it had come first, and is the lower of two that
+    /// did: so it wins its tie.
+    fn local_standing(&self, candidate: K1) -> (u8, bool, Reverse<u8>) {
+        let came_first = candidate == self.last || candidate.channel == 0;
+        (candidate.rank(), came_first, Reverse(candidate.channel))
     }
 
     fn condition_request(&self, section: u8, condition: u8) -> Option<K1> {
@@ -443,6 +455,8 @@ fn selector(accepted: pair::Record, sent: K1) -> u8 {
     }
 }
 
+#[cfg(test)]
+pub(crate) mod by_01;
 #[cfg(test)]
 mod properties;
 #[cfg(test)]

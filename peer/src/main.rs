@@ -1,16 +1,19 @@
-//! A second reading of the scope paper.
+//! A second reading of the scope paper (01), with what is in force of the change
+//! requests (02): d, and b, which changes nothing that is answered.
 //!
-//! Everything here was written from the paper alone, and `door` and `library` from
+//! Everything here was written from the papers alone, and `door` and `library` from
 //! `include/chainplater.h` besides. None of it comes from the Rattle source, by
 //! copying or by looking: two programs that share an author's misreading agree
 //! with each other and prove nothing. Every landing that changes this package
 //! keeps it that way.
 //!
-//! Three points were not reached so: what `pair::rank` answers for a channel that
+//! Four points were not reached so: what `pair::rank` answers for a channel that
 //! no group has, and `book::body` for an entry whose body is not all in the
-//! book; and that the line of a refused capture keeps its number, sections and
-//! steps. The paper is silent there. What is answered was settled for both
-//! programs, and their agreement on it is no evidence.
+//! book; that the line of a refused capture keeps its number, sections and steps;
+//! and that a request was last sent, in 02 d, if the step before sent it, and no
+//! earlier one. On the first three the paper is silent, and the fourth takes 02 at
+//! its word. What is answered was settled for both programs, and their agreement
+//! on it is no evidence.
 //!
 //! Nor was the closed form of `judge::scan`, which requests can be sent in a step:
 //! it was handed over. What speaks for it is that it agrees with the judge by brute

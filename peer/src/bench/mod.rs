@@ -69,6 +69,9 @@ impl Work {
     }
 }
 
+/// The longest name has 53 characters.
+const NAME_WIDTH: usize = 54;
+
 const PREFACE: [&str; 4] = [
     "Rattle is the proved library, Rust this package, both called through the functions of chainplater.h.",
     "Outputs are not cleared between calls. A MB is 1,000,000 bytes of the book; the reader looks at its",
@@ -84,7 +87,7 @@ pub fn write(library: &impl Door, out: &mut impl Write) -> io::Result<()> {
     let (what, unit, rattle, rust) = ("", "unit", "Rattle", "Rust");
     writeln!(
         out,
-        "{what:<44}{unit:>8}{rattle:>28}{rust:>28}{:>8}",
+        "{what:<NAME_WIDTH$}{unit:>8}{rattle:>28}{rust:>28}{:>8}",
         "ratio"
     )?;
     out.flush()?;
@@ -111,7 +114,7 @@ impl Row {
         let ratio = rattle.median / rust.median;
         writeln!(
             out,
-            "{:<44}{unit:>8}{:>28}{:>28}{ratio:>8.2}",
+            "{:<NAME_WIDTH$}{unit:>8}{:>28}{:>28}{ratio:>8.2}",
             self.name,
             self.figures(rattle),
             self.figures(rust),

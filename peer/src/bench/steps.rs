@@ -1,7 +1,10 @@
 //! The controller's step, over walks that stay in acceptable records: a drawn one, in
-//! which conditions, commands and pairs come and go; a quiet one, as lines mostly are; and
-//! one whose last section is degraded, of low priority, where a search from the highest
-//! rank down and from section 0 up has the most to look at.
+//! which conditions, commands and pairs come and go; a quiet one, as lines mostly are;
+//! and two whose last section is degraded, of low priority, which a search from the
+//! highest rank down and from section 0 up comes to last. In the first of these it is
+//! what was last sent, so such a search may look at it first (02 d). In the second the
+//! far end keeps a forced switch up: RR is sent in each step, nobody has a claim, and
+//! there is the most to look at.
 
 use super::{Row, Unit, Work, SETTINGS};
 use crate::books::capture::Settings;
@@ -32,6 +35,12 @@ const NOTHING: Given = Given {
     channel: 0,
 };
 
+/// The far end asks for a forced switch of section 1.
+const SWITCHED: Given = Given {
+    received: [0xE1, 0x08],
+    ..NOTHING
+};
+
 const DEGRADED: u8 = 1;
 
 impl Walk {
@@ -44,10 +53,10 @@ impl Walk {
     }
 
     fn quiet(settings: Settings) -> Self {
-        Self::of_one(settings, [0; MOST_CONDITIONS])
+        Self::of_one(settings, [0; MOST_CONDITIONS], NOTHING)
     }
 
-    fn last_degraded(settings: Settings) -> Self {
+    fn last_degraded(settings: Settings, given: Given) -> Self {
         let mut conditions = [0; MOST_CONDITIONS];
         conditions[usize::from(settings.n)] = DEGRADED;
         Self::of_one(
@@ -56,22 +65,24 @@ impl Walk {
                 ..settings
             },
             conditions,
+            given,
         )
     }
 
-    /// The same conditions in every step.
-    fn of_one(settings: Settings, conditions: [u8; MOST_CONDITIONS]) -> Self {
+    /// The same in every step.
+    fn of_one(settings: Settings, conditions: [u8; MOST_CONDITIONS], given: Given) -> Self {
         Self {
             start: record_bytes(&settings.fresh()),
-            steps: vec![(conditions, NOTHING); STEPS],
+            steps: vec![(conditions, given); STEPS],
         }
     }
 
-    fn all(settings: Settings) -> [Self; 3] {
+    fn all(settings: Settings) -> [Self; 4] {
         [
             Self::drawn(settings),
             Self::quiet(settings),
-            Self::last_degraded(settings),
+            Self::last_degraded(settings, NOTHING),
+            Self::last_degraded(settings, SWITCHED),
         ]
     }
 
@@ -102,11 +113,12 @@ pub fn rows(library: &impl Door) -> io::Result<Vec<Row>> {
     for settings in SETTINGS {
         let name = format!("step, n = {}", settings.n);
         let work = |more| Work(format!("{name}{more}"), Unit::Step, STEPS);
-        let [drawn, quiet, last] = &Walk::all(settings);
+        let [drawn, quiet, last, switched] = &Walk::all(settings);
         for (more, walk) in [
             ("", drawn),
             (", quiet", quiet),
             (", last section degraded", last),
+            (", last section degraded, far end switched", switched),
         ] {
             rows.push(work(more).measure(|| go(library, walk), || go(&Peer, walk))?);
         }
@@ -176,5 +188,21 @@ pub fn check(door: &impl Door) {
         }
         assert_eq!(*record_in(&out), go(door, &walk));
         assert_eq!(*record_in(&out), go_with_own_record(&walk));
+    }
+}
+
+#[cfg(test)]
+mod tests {
+    use super::*;
+
+    /// Every step is the same, so what is sent last was sent in all of them.
+    #[test]
+    fn the_last_section_has_a_claim_unless_the_far_end_is_switched() {
+        for settings in SETTINGS {
+            let [_, _, last, switched] = &Walk::all(settings);
+            let sent = |walk| record_of(&go_with_own_record(walk)).sent;
+            assert_eq!(sent(last), 0xA0 | settings.n);
+            assert_eq!(sent(switched), 0x21);
+        }
     }
 }

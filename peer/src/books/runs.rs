@@ -8,9 +8,12 @@ use crate::controller::{self, Record};
 use crate::draws::Draws;
 use crate::judge::Row;
 use crate::pair::Request;
+use std::iter::repeat_n;
 
 const SEED: u64 = 1;
 const SHORT: usize = 3_500;
+/// Short runs in which sections tie.
+const TIED: usize = 500;
 /// One more than the steps of a short run can be.
 const SHORT_BELOW: u16 = 41;
 /// As many steps as one capture can have in a book.
@@ -37,6 +40,8 @@ pub struct Habit {
     unusable: u16,
     /// Section 0 fails, whatever the other conditions are.
     dark: u16,
+    /// Where conditions would last or be good again, one more joins them.
+    crowded: bool,
 }
 
 pub const COMMON: Habit = Habit {
@@ -45,6 +50,7 @@ pub const COMMON: Habit = Habit {
     switch: 3,
     unusable: 4,
     dark: 0,
+    crowded: false,
 };
 
 /// LO is up most of the time, and what is received is seldom usable.
@@ -54,6 +60,17 @@ pub const LOCKED: Habit = Habit {
     switch: 1,
     unusable: 11,
     dark: 5,
+    crowded: false,
+};
+
+/// One section after the other goes bad, and little else comes in between, so that
+/// a lower one often ties with the one that was there first (02 d).
+pub const CROWDED: Habit = Habit {
+    clear: 1,
+    lockout: 0,
+    switch: 1,
+    crowded: true,
+    ..COMMON
 };
 
 pub fn captures() -> Vec<Capture> {
@@ -61,9 +78,10 @@ pub fn captures() -> Vec<Capture> {
     let long =
         LONG.map(|(n, mask, w, steps)| draw(&mut draws, COMMON, Settings { n, mask, w }, steps));
     let mut captures = long.to_vec();
-    captures.extend((0..SHORT).map(|_| {
+    let habits = repeat_n(COMMON, SHORT).chain(repeat_n(CROWDED, TIED));
+    captures.extend(habits.map(|habit| {
         let steps = usize::from(draws.below(SHORT_BELOW));
-        draw_of_any_settings(&mut draws, COMMON, steps)
+        draw_of_any_settings(&mut draws, habit, steps)
     }));
     captures
 }
@@ -175,6 +193,10 @@ impl<'a> Run<'a> {
     fn draw_conditions(&mut self) {
         let draws = &mut *self.draws;
         match draws.below(8) {
+            0..6 if self.habit.crowded => {
+                let section = draws.place(self.conditions.len());
+                self.conditions[section] = draws.pick(&[1, 2]);
+            }
             0..4 => {}
             4..6 => self.conditions.fill(0),
             6 => {
@@ -215,6 +237,7 @@ impl<'a> Run<'a> {
 #[cfg(test)]
 mod tests {
     use super::*;
+    use crate::controller::by_01;
     use std::collections::BTreeMap;
 
     /// The long runs alone have more steps, so they are left out.
@@ -238,10 +261,33 @@ mod tests {
     #[test]
     fn runs_are_of_every_length_that_is_meant() {
         let captures = captures();
-        assert_eq!(captures.len(), LONG.len() + SHORT);
+        assert_eq!(captures.len(), LONG.len() + SHORT + TIED);
         assert_eq!(captures[0].rows.len(), LONGEST);
         let steps = captures[LONG.len()..].iter().map(|run| run.rows.len());
         assert_eq!(steps.clone().min(), Some(0));
         assert_eq!(steps.max(), Some(40));
+    }
+
+    /// Steps that 01 alone, without 02 d, would answer otherwise.
+    #[test]
+    fn crowded_runs_come_by_ties_with_what_was_last_sent() {
+        let mut draws = Draws::from_seed(SEED);
+        let mut otherwise = 0;
+        for _ in 0..TIED {
+            let settings = draw_settings(&mut draws);
+            let mut run = Run::new(&mut draws, CROWDED, settings);
+            for _ in 0..SHORT_BELOW / 2 {
+                let Given {
+                    received: [k1, k2],
+                    command,
+                    channel,
+                } = run.draw();
+                let [answer, alone] = [controller::step, by_01::step]
+                    .map(|step| step(run.record, k1, k2, &run.conditions, command, channel));
+                run.record = answer.record;
+                otherwise += u32::from(answer != alone);
+            }
+        }
+        assert!(otherwise >= 200, "{otherwise}");
     }
 }

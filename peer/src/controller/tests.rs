@@ -1,3 +1,5 @@
+mod first_come;
+
 use super::*;
 use crate::pair::{decode, Received};
 
@@ -127,10 +129,11 @@ fn p12_an_unusable_pair_changes_nothing() {
     assert_eq!(answer.record, p2().record);
 }
 
+/// As 02 d has it.
 #[test]
-fn p13_what_was_sent_before_gives_no_precedence() {
+fn p13_what_was_sent_before_stays() {
     let answer = quiet(sent_by(0xC2), [0x00, 0x08], BOTH_FAILED);
-    assert_eq!(seen(answer), ([0xC1, 0x08], 0, 0, 0));
+    assert_eq!(seen(answer), ([0xC2, 0x08], 0, 0, 0));
 }
 
 #[test]

@@ -1,4 +1,7 @@
+mod ties;
+
 use super::*;
+use crate::controller::Answer;
 use crate::draws::Draws;
 use std::collections::HashSet;
 use std::fs;
@@ -193,13 +196,19 @@ fn draw_pair(draws: &mut Draws, n: u8) -> [u8; 2] {
     [code * 16 + channel, bridged * 16 + 8]
 }
 
-fn after(record: Record, [k1, k2]: [u8; 2], cause: &Cause) -> controller::Answer {
+fn after(record: Record, received: [u8; 2], cause: &Cause) -> Answer {
+    after_by(controller::step, record, received, cause)
+}
+
+type Step = fn(Record, u8, u8, &[u8], u8, u8) -> Answer;
+
+fn after_by(step: Step, record: Record, [k1, k2]: [u8; 2], cause: &Cause) -> Answer {
     let Cause {
         conditions,
         command,
         channel,
     } = cause;
-    controller::step(record, k1, k2, conditions, *command, *channel)
+    step(record, k1, k2, conditions, *command, *channel)
 }
 
 /// Steps under drawn causes, so that long explanations come up; now and then with
@@ -220,8 +229,13 @@ fn draw_rows(draws: &mut Draws, start: Record, causes: &[Cause]) -> Vec<Row> {
     (0..12).map(draw_row).collect()
 }
 
+fn draw_start(draws: &mut Draws, n: u8) -> Record {
+    let mask = draws.below(1 << n);
+    controller::fresh(n, mask, draws.below(4)).unwrap()
+}
+
 /// What larger groups rely on: a second bad section never explains what no one
-/// bad section does. The records reached are compared too, step by step.
+/// bad section does. Ties have captures of their own.
 #[test]
 fn one_bad_section_explains_as_much_as_several() {
     let mut draws = Draws::from_seed(31);
@@ -231,16 +245,25 @@ fn one_bad_section_explains_as_much_as_several() {
         let several = with_commands(n, &all_conditions(n));
         let one = with_commands(n, &one_bad_section(n));
         for _ in 0..captures {
-            let mask = draws.below(1 << n);
-            let start = controller::fresh(n, mask, draws.below(4)).unwrap();
+            let start = draw_start(&mut draws, n);
             let rows = draw_rows(&mut draws, start, &several);
-            let verdict = explain(start, &rows, &several);
-            assert_eq!(explain(start, &rows, &one), verdict);
-            assert!(same_records_reached(start, &rows, [&several, &one]));
+            let verdict = explained_by_one_as_by_several(start, &rows, [&several, &one]);
             unexplained += usize::from(matches!(verdict, Verdict::Unexplained(_)));
         }
     }
     assert!((100..350).contains(&unexplained), "{unexplained}");
+}
+
+/// The records reached are compared too, step by step.
+fn explained_by_one_as_by_several(
+    start: Record,
+    rows: &[Row],
+    [several, one]: [&[Cause]; 2],
+) -> Verdict {
+    let verdict = explain(start, rows, several);
+    assert_eq!(explain(start, rows, one), verdict);
+    assert!(same_records_reached(start, rows, [several, one]));
+    verdict
 }
 
 fn same_records_reached(start: Record, rows: &[Row], causes: [&[Cause]; 2]) -> bool {

@@ -29,6 +29,17 @@ const fn of_two(
     }
 }
 
+/// For the ties of 02 d.
+const fn of_three(name: &'static str, mask: u16, steps: &'static [Given<'static>]) -> Sequence {
+    Sequence {
+        name,
+        n: 3,
+        mask,
+        w: 3,
+        steps,
+    }
+}
+
 const GOOD: &[u8] = &[0, 0, 0];
 const DEGRADED_2: &[u8] = &[0, 0, 1];
 
@@ -42,7 +53,7 @@ const GOOD_OF_14: &[u8] = &section_14(0);
 const DEGRADED_14: &[u8] = &section_14(1);
 const FAILED_14: &[u8] = &section_14(2);
 
-const SEQUENCES: [Sequence; 13] = [
+const SEQUENCES: [Sequence; 18] = [
     of_two("P1", 0, 3, &[Given::new(0x00, 0x08, GOOD)]),
     of_two(
         "P2 P3 P8 P9",
@@ -101,6 +112,52 @@ const SEQUENCES: [Sequence; 13] = [
         &[
             Given::new(0x00, 0x08, &[0, 0, 2]),
             Given::new(0x00, 0x08, &[0, 2, 2]),
+        ],
+    ),
+    of_three(
+        "first come stays",
+        0,
+        &[
+            Given::new(0x00, 0x08, &[0, 0, 2, 0]),
+            Given::new(0x00, 0x08, &[0, 2, 2, 0]),
+            Given::new(0x22, 0x28, &[0, 2, 2, 0]),
+        ],
+    ),
+    of_three(
+        "no claim after RR",
+        0,
+        &[
+            Given::new(0x00, 0x08, &[0, 0, 2, 0]),
+            Given::new(0xE3, 0x08, &[0, 2, 2, 0]),
+            Given::new(0x00, 0x08, &[0, 2, 2, 0]),
+        ],
+    ),
+    of_three(
+        "the tie of section 0",
+        1,
+        &[
+            Given::new(0x00, 0x08, &[0, 1, 0, 0]),
+            Given::new(0x21, 0x18, &[0, 1, 0, 0]),
+            Given::new(0x21, 0x18, &[1, 1, 0, 0]),
+        ],
+    ),
+    of_three(
+        "a place is lost",
+        0,
+        &[
+            Given::new(0x00, 0x08, &[0, 0, 2, 0]),
+            Given::new(0x22, 0x28, &[0, 2, 2, 2]),
+            Given::new(0x22, 0x28, &[0, 2, 0, 2]),
+            Given::new(0x22, 0x28, &[0, 2, 2, 2]),
+        ],
+    ),
+    of_three(
+        "between the ends",
+        0,
+        &[
+            Given::new(0x00, 0x08, &[0, 0, 2, 0]),
+            Given::new(0xC1, 0x08, &[0, 2, 2, 0]),
+            Given::new(0xC1, 0x18, &[0, 2, 2, 0]),
         ],
     ),
     of_two(
@@ -221,5 +278,37 @@ mod tests {
         let waiting = "22 28 000 0 0: 0 62 28 2 2 0 0\n";
         let ended = "22 28 000 0 0: 0 00 28 2 0 0 0\n";
         assert!(text.contains(&[waiting, waiting, waiting, ended].concat()));
+    }
+    /// By hand from 02 d and rules 3 to 7.
+    #[test]
+    fn ties_are_decided_by_who_came_first() {
+        let expected = "\
+P13: n 2 mask 0 W 3
+00 08 002 0 0: 0 C2 08 0 0 0 0
+00 08 022 0 0: 0 C2 08 0 0 0 0
+first come stays: n 3 mask 0 W 3
+00 08 0020 0 0: 0 C2 08 0 0 0 0
+00 08 0220 0 0: 0 C2 08 0 0 0 0
+22 28 0220 0 0: 0 C2 28 2 2 0 0
+no claim after RR: n 3 mask 0 W 3
+00 08 0020 0 0: 0 C2 08 0 0 0 0
+E3 08 0220 0 0: 0 23 38 3 0 0 0
+00 08 0220 0 0: 0 C1 08 0 0 0 0
+the tie of section 0: n 3 mask 1 W 3
+00 08 0100 0 0: 0 B1 08 0 0 0 0
+21 18 0100 0 0: 0 B1 18 1 1 0 0
+21 18 1100 0 0: 0 B0 08 0 0 0 0
+a place is lost: n 3 mask 0 W 3
+00 08 0020 0 0: 0 C2 08 0 0 0 0
+22 28 0222 0 0: 0 C2 28 2 2 0 0
+22 28 0202 0 0: 0 C1 08 0 0 0 0
+22 28 0222 0 0: 0 C1 08 0 0 0 0
+between the ends: n 3 mask 0 W 3
+00 08 0020 0 0: 0 C2 08 0 0 0 0
+C1 08 0220 0 0: 0 21 18 1 0 0 0
+C1 18 0220 0 0: 0 C1 18 1 1 0 0
+no wait: n 2 mask 0 W 0
+";
+        assert!(printed(write).contains(expected));
     }
 }
