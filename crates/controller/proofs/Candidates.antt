@@ -10,7 +10,8 @@ use Rattle.pair.proofs.Ranks.{rank-own}
 use Rattle.request.specs.Order.{byTurn, OneOf, Orders}
 use Rattle.request.specs.declared.Request.{Request}
 use Rattle.request.proofs.Order.{one-split, one-joined, best-one, best-above, best-only, best-single, best-top}
-use Rattle.request.proofs.Order.{tie-lost, lower-first, turn-orders}
+use Rattle.request.proofs.Order.{tie-lost, lower-first}
+use Rattle.request.proofs.FirstCome.{turn-orders}
 use Rattle.controller.specs.Rules.{reverse, noRequest, rankOfRequest, conditionsFrom, candidates, localRequest, decided}
 use Rattle.controller.proofs.Apart.{none-rank}
 

@@ -12,7 +12,8 @@ use Rattle.pair.specs.Request.{rankOf}
 use Rattle.pair.proofs.Ranks.{rank-most}
 use Rattle.request.specs.Order.{turn, byTurn, OneOf, Orders}
 use Rattle.request.specs.declared.Request.{Request}
-use Rattle.request.proofs.Order.{NoneAbove, next-asked, best-asked, none-asked, lower-first, turn-orders}
+use Rattle.request.proofs.Order.{NoneAbove, next-asked, best-asked, none-asked, lower-first}
+use Rattle.request.proofs.FirstCome.{turn-orders}
 use Rattle.controller.specs.Rules.{noRequest, rankOfRequest, isCommand, conditionsFrom, isWait, candidates, localRequest}
 use Rattle.controller.specs.Asking.{OfKind, asks, sectionAt, Ranked}
 use Rattle.controller.proofs.Candidates.{candidate-split, candidate-one}

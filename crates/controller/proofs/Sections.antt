@@ -12,7 +12,7 @@ use lib.Seq.{getD-set-same, getD-set-other}
 use borrow.Author.Tests.{eqb-true, eqb-false, ne-eqb}
 use Rattle.request.specs.Order.{turn, OneOf}
 use Rattle.request.specs.declared.Request.{Request}
-use Rattle.request.proofs.Order.{Turns, turn-cases, turn-own}
+use Rattle.request.proofs.FirstCome.{Turns, turn-cases, turn-own}
 use Rattle.controller.specs.Rules.{rankOfRequest, condition, conditionsFrom}
 use Rattle.controller.specs.Asking.{asks, sectionAt, Holds, Ranked}
 use Rattle.controller.proofs.Apart.{own-channel}

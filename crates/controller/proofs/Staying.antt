@@ -13,7 +13,8 @@ use borrow.Author.Tests.{ltb-true, ltb-false}
 use Rattle.pair.specs.Request.{rankOf}
 use Rattle.request.specs.Order.{turn, byRank, byTurn, best, OneOf}
 use Rattle.request.specs.declared.Request.{Request}
-use Rattle.request.proofs.Order.{NoneAbove, best-asked, lower-first, turn-orders, Turns, turn-cases, turn-again}
+use Rattle.request.proofs.Order.{NoneAbove, best-asked, lower-first}
+use Rattle.request.proofs.FirstCome.{turn-orders, Turns, turn-cases, turn-again}
 use Rattle.controller.specs.Rules.{noRequest, asked, rankOfRequest, isCommand, held, kept, given, replacesHeld}
 use Rattle.controller.specs.Rules.{condition, conditionsFrom, isWait, candidates, localRequest, decided, k1Of}
 use Rattle.controller.specs.Step.{protection, waitOf, moved}
@@ -96,8 +97,7 @@ asking-within mask c xs some = go (ltb c (length xs)) refl
         let none : 0 < 0 = rw (good, none-rank) at some in
         absurd (omega arith)
 
--- a step from a record that has last sent x, which section c asks for
-module _ (s : Controller) (i : Input) (c : ℕ) (goes : stepBy s i .refusal ≡ 0) where
+module _ (s : Controller) (i : Input) (goes : stepBy s i .refusal ≡ 0) where
   abbrev last : Request
   last = asked (s .sent)
 
@@ -109,12 +109,14 @@ module _ (s : Controller) (i : Input) (c : ℕ) (goes : stepBy s i .refusal ≡ 
       well-formed s (i .conditions) (i .command) (i .channel)
       (not-refused s (i .k1) (i .k2) (i .conditions) (i .command) (i .channel) goes .0) .number
 
-  decides : stepBy s i .k1 ≡ k1Of (decided (acceptedIn s i) (nearBy last))
+  -- what a step sends, by what it has accepted and by its candidates
+  pub decides : stepBy s i .k1 ≡ k1Of (decided (acceptedIn s i) (nearBy last))
   unfolding moved localRequest
   decides = rw (not-refused s (i .k1) (i .k2) (i .conditions) (i .command) (i .channel) goes .1)
 
-  module _ (x : Request) (sent : last ≡ x) (asks-again : asks (s .mask) (i .conditions) c ≡ x) (some : 0 < rankOfRequest x)
-      (above : NoneAbove rankOfRequest (candidatesIn s i) (rankOfRequest x))
+  -- from a record that has last sent x, which section c asks for
+  module _ (c : ℕ) (x : Request) (sent : last ≡ x) (asks-again : asks (s .mask) (i .conditions) c ≡ x)
+      (some : 0 < rankOfRequest x) (above : NoneAbove rankOfRequest (candidatesIn s i) (rankOfRequest x))
       (other : rankOfRequest (condition (s .mask) 0 (protection (i .conditions))) ≡ rankOfRequest x → ⊥) where
     near-stays : nearBy last ≡ x
     near-stays =
@@ -159,7 +161,7 @@ module _ (s : Controller) (i j : Input) (c : ℕ) where
       → byRank rankOf (acceptedIn (before .controller) j) asks-for ≡ false
       → after .k1 ≡ before .k1
   stays goes goes-on some sends keeps above other loses =
-      sent-again (before .controller) j c goes-on asks-for last-sent again some above
+      sent-again (before .controller) j goes-on c asks-for last-sent again some above
       (λ h. other (ap (λ (m : ℕ). rankOfRequest (condition m 0 (protection (j .conditions)))) (sym mask) ∙ h)) loses
       ∙ sym sends
     where

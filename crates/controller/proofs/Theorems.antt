@@ -14,7 +14,7 @@ use Rattle.pair.specs.Marks.{lineBits, mark}
 use Rattle.request.specs.Order.{byRank, byTurn, best, OneOf}
 use Rattle.request.specs.declared.Request.{Request}
 use Rattle.controller.specs.Settings.{makingCase, making}
-use Rattle.controller.specs.Rules.{reverse, noRequest, rankOfRequest, accepting, condition, candidates, localRequest}
+use Rattle.controller.specs.Rules.{reverse, noRequest, asked, rankOfRequest, accepting, condition, candidates, localRequest}
 use Rattle.controller.specs.Rules.{decided, k1Of}
 use Rattle.controller.specs.Refusals.{acceptable, conditionsFit, stepFaults, refusal}
 use Rattle.controller.specs.Step.{protection, refusedStep, moved, step}
@@ -26,7 +26,7 @@ use Rattle.controller.proofs.Candidates.{reverse-loses, none-loses, end
 use Rattle.controller.proofs.Candidates.{local-one, local-above, local-only, local-single}
 use Rattle.controller.proofs.Inputs.{faults-counted}
 use Rattle.controller.proofs.Keeping.{step-refused, step-keeps, made-acceptable, made-run-unrefused}
-use Rattle.controller.proofs.Staying.{stays}
+use Rattle.controller.proofs.Staying.{decides, stays}
 use Rattle.controller.proofs.Controller.fresh.Kinds as fresh-kinds
 use Rattle.controller.proofs.Controller.fresh.Reads as fresh-fn
 use Rattle.controller.proofs.Controller.fresh.Statement as fresh-statement
@@ -165,6 +165,13 @@ single-right : (mask protection : ℕ) (working : List ℕ) (command wait last x
     → OneOf x (candidates mask protection working command wait)
     → localRequest mask last protection working command wait ≡ x
 single-right = local-single
+
+-- What a step sends: the decision between the request that it has accepted and the best of its candidates, in the order that
+-- goes by the K1 last sent.
+sends-right : (s : Controller) (i : Input) → stepBy s i .refusal ≡ 0 →
+    let near = best (byTurn rankOf (asked (s .sent))) noRequest (candidatesIn s i) in
+    stepBy s i .k1 ≡ k1Of (decided (acceptedIn s i) near)
+sends-right = decides
 
 -- First come stays (02, d): a step sends what section c asks for; in the next step the section keeps its condition, no
 -- candidate has a higher rank, section 0 does not ask at the same rank, and the request that is accepted, whatever pair was

@@ -126,7 +126,8 @@ unfoldable pub localRequest : ℕ → Request → ℕ → List ℕ → Request �
 localRequest mask last protection working command wait =
     best (byTurn rankOf last) noRequest (candidates mask protection working command wait)
 
--- 4. Decision, by rank, then by channel. A request of the far end that beats ours is answered by RR; otherwise ours goes out.
+-- 4. Decision, by rank, then by channel. A request of the far end that beats ours is answered by RR; otherwise ours goes
+-- out.
 abbrev pub decided : Request → Request → Request
 decided far near = if byRank rankOf far near then reverse (far .channel) else near
 

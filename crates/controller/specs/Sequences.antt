@@ -1,4 +1,5 @@
--- The sequences P1 to P13 of document 01, P13 as 02, d has it: n = 2, mask 0, W = 3, conditions good, no command unless given.
+-- The sequences P1 to P13 of document 01, P13 as 02, d has it: n = 2, mask 0, W = 3, conditions good, no command unless
+-- given.
 use mathlib.Core.Bool.{Bool, _&&_}
 use mathlib.Core.List.{List, [], _∷_}
 use Prim.Native.Nat.{ℕ}

@@ -72,9 +72,9 @@ fn section_at(last: Request, at: usize) -> u8
     if 0 < at { (at - 1) as u8 } else { 0 }
 }
 
-// The higher rank, then the turn (01, rule 3; 02, d): section 0, the section whose request was last sent, the others from 1 up.
-// So the first hit is the answer. Command and wait may come before the sections: no two of the three kinds share a rank, since
-// each rank above 0 is one code's alone.
+// The higher rank, then the turn (01, rule 3; 02, d): section 0, the section whose request was last sent, the others from
+// 1 up. So the first hit is the answer. Command and wait may come before the sections: no two of the three kinds share a
+// rank, since each rank above 0 is one code's alone.
 pub(crate) fn local_request(
     mask: u16,
     last: Request,

@@ -9,7 +9,8 @@ use Rattle.pair.specs.Request.{requests, carries, channel-0, a-section, rankIn,
 use Rattle.pair.proofs.Rows.{heldIn, carried-within}
 use Rattle.request.specs.Order.{same}
 use Rattle.request.specs.declared.Request.{Request}
-use Rattle.request.proofs.Order.{or-true, or-right, same-one}
+use Rattle.request.proofs.Order.{or-true, or-right}
+use Rattle.request.proofs.FirstCome.{same-one}
 use Rattle.controller.specs.Rules.{request, rankOfRequest, isCommand, held, isClear, given, replacesHeld}
 use Rattle.controller.specs.Refusals.{channelFits}
 use Rattle.explain.specs.Cause.{commanded}

@@ -1,7 +1,7 @@
 -- A request of which the closed form holds is made the local request by some cause: a witness of at most one bad section and
 -- one command. (That the closed form holds of every local request is in Source.)
 use mathlib.Core.Path.{_≡_, refl, sym, ap, subst, _∙_}
-use mathlib.Core.Bool.{Bool, true, false, not, _&&_, _||_, and-eq-true-iff}
+use mathlib.Core.Bool.{Bool, true, false, _&&_, _||_, and-eq-true-iff}
 use mathlib.Core.List.{List, _∷_}
 use mathlib.Core.Logic.{_⊎_, inl, inr, ⊎-elim}
 use Prim.Native.Nat.{ℕ, suc, _+_, _≤_, _<_, zero-le}
@@ -15,9 +15,10 @@ use Rattle.pair.proofs.Rows.{heldIn, carried-within}
 use Rattle.request.specs.Order.{byTurn, OneOf}
 use Rattle.request.specs.Wait.{waitNow}
 use Rattle.request.specs.declared.Request.{Request}
-use Rattle.request.proofs.Order.{or-true, turn-orders}
+use Rattle.request.proofs.Order.{or-true}
+use Rattle.request.proofs.FirstCome.{turn-orders}
 use Rattle.controller.specs.Settings.{high}
-use Rattle.controller.specs.Rules.{request, noRequest, rankOfRequest}
+use Rattle.controller.specs.Rules.{noRequest, rankOfRequest}
 use Rattle.controller.specs.Rules.{isCommand, held, isClear, kept, given, replacesHeld, inForce, condition, conditionsFrom}
 use Rattle.controller.specs.Rules.{isFailOrDegrade, isWait, entersWait, waiting, candidates, localRequest}
 use Rattle.controller.specs.Refusals.{conditionsFit, channelFits}

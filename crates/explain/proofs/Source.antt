@@ -12,7 +12,8 @@ use Rattle.basics.specs.Choice.{if_then_else_}
 use Rattle.pair.specs.Request.{requests, channel-0, a-section, rankIn, rankOf}
 use Rattle.request.specs.Order.{byTurn, OneOf}
 use Rattle.request.specs.declared.Request.{Request}
-use Rattle.request.proofs.Order.{or-right, turn-orders}
+use Rattle.request.proofs.Order.{or-right}
+use Rattle.request.proofs.FirstCome.{turn-orders}
 use Rattle.controller.specs.Settings.{high}
 use Rattle.controller.specs.Rules.{noRequest, rankOfRequest, isCommand, held, isClear, given, replacesHeld, failCode, degradeCode}
 use Rattle.controller.specs.Rules.{condition, conditionsFrom, waiting}

@@ -9,7 +9,8 @@ use Rattle.basics.proofs.One.{OneAnswer, one-value}
 use Rattle.request.specs.Order.{better, byRank, byTurn, best, OneOf, Orders}
 use Rattle.request.specs.declared.Request.{Request}
 use Rattle.request.proofs.Order.{better-irreflexive, better-transitive, better-total, never-wins}
-use Rattle.request.proofs.Order.{best-one, best-above, best-only, best-single, best-asked, rank-orders, turn-orders}
+use Rattle.request.proofs.Order.{best-one, best-above, best-only, best-single, best-asked, rank-orders}
+use Rattle.request.proofs.FirstCome.{turn-orders}
 use Rattle.request.proofs.better.Kinds as better-kinds
 use Rattle.request.proofs.better.Reads as better-fn
 use Rattle.request.proofs.better.Statement as better-statement

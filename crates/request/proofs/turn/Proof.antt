@@ -1,7 +1,7 @@
 -- `turn` meets its contract.
 use mathlib.Core.Path.{sym}
 use borrow.Author.Needs.{needs}
-use Rattle.request.proofs.Order.{turn-zero, turn-stays, turn-other}
+use Rattle.request.proofs.FirstCome.{turn-zero, turn-stays, turn-other}
 use Rattle.request.proofs.turn.Statement.{statement}
 use Rattle.request.proofs.turn.Tie as tie
 
