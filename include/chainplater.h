@@ -70,7 +70,9 @@ uint8_t chainplater_encode(uint8_t n, uint8_t code, uint8_t channel, uint8_t bri
 /*
  * One step: the controller of that record receives k1 and k2, sees the conditions of sections 0 to n (0 good, 1
  * degraded, 2 failed; `count` is n + 1) and is given a command (0 none, 1 clear, 2 lockout, 3 forced switch, 4 manual
- * switch) for a channel (0 for the first three, 1 to n for the other two). Refusals 1 to 7, in this order.
+ * switch) for a channel (0 for the first three, 1 to n for the other two). Of sections that ask at equal rank section 0
+ * comes first, then the one whose request the record has as last sent, then the lower one; against the accepted request
+ * the lower channel wins. Refusals 1 to 7, in this order.
  * out: 0 the refusal, 1 to 10 the record after the step, 11 K1 sent, 12 K2 sent, 13 channel bridged, 14 channel
  * selected, 15 mark of the received pair, 16 fate of the command (0 none was given, 1 taken, 2 denied). Where
  * refused: the refusal, the record as it was given, and zeros.

@@ -14,7 +14,7 @@ use Rattle.request.specs.Order.{turn, OneOf}
 use Rattle.request.specs.declared.Request.{Request}
 use Rattle.request.proofs.FirstCome.{Turns, turn-cases, turn-own}
 use Rattle.controller.specs.Rules.{rankOfRequest, condition, conditionsFrom}
-use Rattle.controller.specs.Asking.{asks, sectionAt, Holds, Ranked}
+use Rattle.controller.specs.Asking.{asks, sectionAt, AtTurn, Ranked}
 use Rattle.controller.proofs.Apart.{own-channel}
 
 -- where the first of some conditions is another, the rest are as they were, and as many
@@ -155,7 +155,7 @@ module _ (mask : ℕ) (conditions : List ℕ) (last : Request) where
               omega arith
 
           section-next : (t : ℕ) → 0 < getD stored t 0 → (z : Bool) → eqb t (turnAt c) ≡ z
-              → (sectionAt last t < c + 1) × Holds mask conditions last (getD stored t 0) t
+              → (sectionAt last t < c + 1) × AtTurn mask conditions last (getD stored t 0) t
           section-next t held true e =
               let back = section-back c some in
               rw (eqb-true t (turnAt c) e, getD-set-same ranks (turnAt c) (rankOfRequest (asksAt c)) 0 room) (

@@ -19,12 +19,12 @@ OfKind kind x = (kind (x .code) ≡ true) ⊎ (x ≡ noRequest)
 abbrev pub asks : ℕ → List ℕ → ℕ → Request
 asks mask conditions c = condition mask c (getD conditions c 0)
 
--- the section whose turn it is: section 0, the one that was last sent for, the others from 1 up
+-- the section whose turn it is: section 0, the one whose request was last sent, the others from 1 up
 abbrev pub sectionAt : Request → ℕ → ℕ
 sectionAt last t = if eqb t 1 then last .channel else t - 1
 
--- a place holds the rank of what the section asks for whose turn it is
-pub record Holds (mask : ℕ) (conditions : List ℕ) (last : Request) (rank t : ℕ) : Type 0 where
+-- the rank at a turn is that of what the section asks for whose turn it is
+pub record AtTurn (mask : ℕ) (conditions : List ℕ) (last : Request) (rank t : ℕ) : Type 0 where
   pub own-turn : turn last (asks mask conditions (sectionAt last t)) ≡ t
   pub own-rank : rankOfRequest (asks mask conditions (sectionAt last t)) ≡ rank
 
@@ -35,5 +35,5 @@ pub record Ranked (mask : ℕ) (conditions : List ℕ) (last : Request) (ranks :
   pub looked-at : (i : ℕ) → i < c → 0 < rankOfRequest (asks mask conditions i)
       → turn last (asks mask conditions i) < past-last
   pub section-is : (t : ℕ) → 0 < getD ranks t 0
-      → (sectionAt last t < c) × Holds mask conditions last (getD ranks t 0) t
+      → (sectionAt last t < c) × AtTurn mask conditions last (getD ranks t 0) t
   pub within : past-last ≤ c + 1
