@@ -125,49 +125,33 @@ fn print_p13() {
     receive(s, 0x00, 0x08, &[0, 2, 2]);
 }
 
-// First come stays (02, d), in five ways.
+// First come stays (02, d): after its own request, and not after RR.
 fn print_stays() {
     let s = title(b"first come stays", 3, 0, 3);
     let s = receive(s, 0x00, 0x08, &[0, 0, 2, 0]);
     let s = receive(s, 0x00, 0x08, &[0, 2, 2, 0]);
     receive(s, 0x22, 0x28, &[0, 2, 2, 0]);
-}
-
-fn print_no_claim() {
     let s = title(b"no claim after RR", 3, 0, 3);
     let s = receive(s, 0x00, 0x08, &[0, 0, 2, 0]);
     let s = receive(s, 0xE3, 0x08, &[0, 2, 2, 0]);
     receive(s, 0x00, 0x08, &[0, 2, 2, 0]);
 }
 
-fn print_tie_of_0() {
+// What does not stay: before section 0, once repaired, against the far end.
+fn print_not_stays() {
     let s = title(b"the tie of section 0", 3, 1, 3);
     let s = receive(s, 0x00, 0x08, &[0, 1, 0, 0]);
     let s = receive(s, 0x21, 0x18, &[0, 1, 0, 0]);
     receive(s, 0x21, 0x18, &[1, 1, 0, 0]);
-}
-
-fn print_place_lost() {
     let s = title(b"a place is lost", 3, 0, 3);
     let s = receive(s, 0x00, 0x08, &[0, 0, 2, 0]);
     let s = receive(s, 0x22, 0x28, &[0, 2, 2, 2]);
     let s = receive(s, 0x22, 0x28, &[0, 2, 0, 2]);
     receive(s, 0x22, 0x28, &[0, 2, 2, 2]);
-}
-
-fn print_between_ends() {
     let s = title(b"between the ends", 3, 0, 3);
     let s = receive(s, 0x00, 0x08, &[0, 0, 2, 0]);
     let s = receive(s, 0xC1, 0x08, &[0, 2, 2, 0]);
     receive(s, 0xC1, 0x18, &[0, 2, 2, 0]);
-}
-
-fn print_first_come() {
-    print_stays();
-    print_no_claim();
-    print_tie_of_0();
-    print_place_lost();
-    print_between_ends();
 }
 
 fn print_no_wait() {
@@ -236,7 +220,8 @@ pub(crate) fn print_sequences() {
     print_p11(2);
     print_p12();
     print_p13();
-    print_first_come();
+    print_stays();
+    print_not_stays();
     print_no_wait();
     print_channel_14();
     print_commands();
