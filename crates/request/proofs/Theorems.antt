@@ -63,8 +63,8 @@ bridge-right = bridge-met.met
 selector-right : {M : Type 1} → selector-statement.statement M
 selector-right = selector-met.met
 
--- Better is irreflexive and transitive; of two requests above rank 0 that differ in rank or channel one is better; and
--- RR and NR, of rank 0, never win.
+-- Better is irreflexive and transitive; of two requests above rank 0 that differ in rank or number, be it channel or turn, one
+-- is better; and RR and NR, of rank 0, never win.
 irreflexive : (r c : ℕ) → better r c r c ≡ false
 irreflexive = better-irreflexive
 
@@ -89,7 +89,7 @@ best-complete : (rank : Request → ℕ) (order : Request → Request → Bool) 
 best-complete rank order by candidates none x among =
     best-above order (by .irreflexive) (by .transitive) candidates none x (inr among)
 
--- A candidate that no candidate beats is the best: it has the rank and the channel of the best.
+-- A candidate that no candidate beats has the rank and the channel of the best.
 best-unique : (rank : Request → ℕ) (order : Request → Request → Bool) → Orders rank order
     → (none : Request) (candidates : List Request) (x : Request) → OneOf x candidates → rank none < rank x
     → ((y : Request) → OneOf y candidates → order y x ≡ false) →
