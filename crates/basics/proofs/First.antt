@@ -1,14 +1,76 @@
--- Laws of the first number that applies. Numbers that count on from 1, as the marks do, name the place of the check.
+-- Laws of the first answer that applies. Numbers that count on from 1, as refusals 1 to 7 do, name the place of the check.
 use mathlib.Core.Path.{_≡_, refl, sym, _∙_}
-use mathlib.Core.Bool.{Bool, true, false, _&&_, and-eq-true-iff, false≢true, true≢false}
+use mathlib.Core.Bool.{Bool, true, false, not, _&&_, and-eq-true-iff, false≢true, true≢false}
 use mathlib.Core.List.{List, [], _∷_, _++_}
 use mathlib.Core.Logic.{_↔_, _⊎_, inl, inr, ⊎-elim}
 use Prim.Native.Nat.{ℕ, zero, suc, _+_, _<_, _≤_, zero-le, suc-le-suc}
 use native.Mathlib.Nat.{add-zero, add-suc, suc-add, le-of-suc-le-suc, not-suc-le-zero}
 use native.Mathlib.Omega.{arith}
-use lib.Dec.{ltb}
-use borrow.Author.Tests.{ltb-true}
-use Rattle.basics.specs.First.{Check, _when_, firstOf, appliesAt, FirstAt, numberOf}
+use lib.Dec.{eqb}
+use borrow.Author.Tests.{eqb-true, eqb-false, eq-eqb, not-true}
+use Rattle.basics.specs.First.{CheckFor, Check, _when_, firstOr, appliesAt, answerOr, FirstAt, firstOf, numberOf}
+
+module _ {A : Type 0} where
+  skip : {a : A} {i : ℕ} {rest : List (CheckFor A)} → FirstAt rest i → FirstAt ((a when false) ∷ rest) (suc i)
+  skip {a} {i} {rest} f = record { applies = f .applies; none-before = before }
+    where
+      before : (j : ℕ) → j < suc i → appliesAt ((a when false) ∷ rest) j ≡ false
+      before zero h = refl
+      before (suc j) h = f .none-before j (le-of-suc-le-suc h)
+
+  unskip : {a : A} {i : ℕ} {t : Bool} {rest : List (CheckFor A)} → FirstAt ((a when t) ∷ rest) (suc i) → FirstAt rest i
+  unskip f = record { applies = f .applies; none-before = λ j h. f .none-before (suc j) (suc-le-suc h) }
+
+  -- the answer of the check that is the first to apply is given
+  pub first-given : (none : A) (checks : List (CheckFor A)) (i : ℕ) → FirstAt checks i
+      → firstOr none checks ≡ answerOr none checks i
+  first-given none [] i f = absurd (false≢true (f .applies))
+  first-given none ((a when true) ∷ rest) zero f = refl
+  first-given none ((a when true) ∷ rest) (suc i) f = absurd (true≢false (f .none-before 0 (suc-le-suc zero-le)))
+  first-given none ((a when false) ∷ rest) zero f = absurd (false≢true (f .applies))
+  first-given none ((a when false) ∷ rest) (suc i) f = first-given none rest i (unskip f)
+
+  -- and what is given, if not the other, is the answer of such a check
+  pub first-shown : (none : A) (checks : List (CheckFor A)) → (firstOr none checks ≡ none → ⊥)
+      → (i : ℕ) × FirstAt checks i × (firstOr none checks ≡ answerOr none checks i)
+  first-shown none [] some = absurd (some refl)
+  first-shown none ((a when true) ∷ rest) some =
+      (0, record { applies = refl; none-before = λ j h. absurd (not-suc-le-zero h) }, refl)
+  first-shown none ((a when false) ∷ rest) some =
+      let later = first-shown none rest some in (suc (later .0), skip (later .1), later .2)
+
+  -- a kind of answer that none of the checks bears
+  module _ (kind : A → Bool) where
+    abbrev pub others : List (CheckFor A) → Bool
+    others [] = true
+    others ((a when t) ∷ rest) = not (kind a) && others rest
+
+    pub others-both : (a : A) (rest : List (CheckFor A)) → not (kind a) && others rest ≡ true
+        → (kind a ≡ false) × (others rest ≡ true)
+    others-both a rest e =
+        let both = and-eq-true-iff (not (kind a)) (others rest) .0 e in (not-true (kind a) (both .0), both .1)
+
+    -- is never given, if the other is not of that kind either; and if it is, exactly where none applies
+    pub never-given : (none : A) (checks : List (CheckFor A)) → kind none ≡ false → others checks ≡ true
+        → kind (firstOr none checks) ≡ false
+    never-given none [] is named = is
+    never-given none ((a when true) ∷ rest) is named = others-both a rest named .0
+    never-given none ((a when false) ∷ rest) is named = never-given none rest is (others-both a rest named .1)
+
+    pub none-of : (none : A) (checks : List (CheckFor A)) → kind none ≡ true → others checks ≡ true
+        → (kind (firstOr none checks) ≡ true) ↔ ((i : ℕ) → appliesAt checks i ≡ false)
+    none-of none [] is named = (λ e i. refl, λ h. is)
+    none-of none ((a when true) ∷ rest) is named = (
+      λ e. absurd (false≢true (sym (others-both a rest named .0) ∙ e)),
+      λ h. absurd (true≢false (h 0)),
+    )
+    none-of none ((a when false) ∷ rest) is named =
+        let ih = none-of none rest is (others-both a rest named .1) in (forward ih, λ h. ih .1 (λ i. h (suc i)))
+      where
+        forward : ((kind (firstOr none rest) ≡ true) ↔ ((i : ℕ) → appliesAt rest i ≡ false))
+            → kind (firstOr none rest) ≡ true → (i : ℕ) → appliesAt ((a when false) ∷ rest) i ≡ false
+        forward ih e zero = refl
+        forward ih e (suc i) = ih .0 e i
 
 -- the checks bear the numbers k, k + 1, and so on
 abbrev pub CountedFrom : ℕ → List Check → Type 0
@@ -21,16 +83,6 @@ first-above k [] counted = inl refl
 first-above k ((m when true) ∷ rest) counted = let e = counted .0 in inr (omega arith)
 first-above k ((m when false) ∷ rest) counted =
     ⊎-elim inl (λ (h : suc k ≤ firstOf rest). inr (omega arith)) (first-above (suc k) rest (counted .1))
-
-skip : {m i : ℕ} {rest : List Check} → FirstAt rest i → FirstAt ((m when false) ∷ rest) (suc i)
-skip {m} {i} {rest} f = record { applies = f .applies; none-before = before }
-  where
-    before : (j : ℕ) → j < suc i → appliesAt ((m when false) ∷ rest) j ≡ false
-    before zero h = refl
-    before (suc j) h = f .none-before j (le-of-suc-le-suc h)
-
-unskip : {m i : ℕ} {t : Bool} {rest : List Check} → FirstAt ((m when t) ∷ rest) (suc i) → FirstAt rest i
-unskip f = record { applies = f .applies; none-before = λ j h. f .none-before (suc j) (suc-le-suc h) }
 
 first-place : (k : ℕ) (checks : List Check) → CountedFrom k checks → 0 < k
     → (i : ℕ) → firstOf checks ≡ k + i → FirstAt checks i
@@ -45,44 +97,37 @@ first-place k ((m when false) ∷ rest) counted pos zero e =
 first-place k ((m when false) ∷ rest) counted pos (suc i) e =
     skip (first-place (suc k) rest (counted .1) (suc-le-suc zero-le) i (e ∙ add-suc k i ∙ sym (suc-add k i)))
 
-first-number : (k : ℕ) (checks : List Check) → CountedFrom k checks → (i : ℕ) → FirstAt checks i → firstOf checks ≡ k + i
-first-number k [] counted i f = absurd (false≢true (f .applies))
-first-number k ((m when true) ∷ rest) counted zero f = counted .0 ∙ sym (add-zero k)
-first-number k ((m when true) ∷ rest) counted (suc i) f = absurd (true≢false (f .none-before 0 (suc-le-suc zero-le)))
-first-number k ((m when false) ∷ rest) counted zero f = absurd (false≢true (f .applies))
-first-number k ((m when false) ∷ rest) counted (suc i) f =
-    first-number (suc k) rest (counted .1) i (unskip f) ∙ suc-add k i ∙ sym (add-suc k i)
+counted-at : (k : ℕ) (checks : List Check) → CountedFrom k checks → (i : ℕ) → appliesAt checks i ≡ true
+    → numberOf checks i ≡ k + i
+counted-at k [] counted i e = absurd (false≢true e)
+counted-at k ((m when t) ∷ rest) counted zero e = counted .0 ∙ sym (add-zero k)
+counted-at k ((m when t) ∷ rest) counted (suc i) e =
+    counted-at (suc k) rest (counted .1) i e ∙ suc-add k i ∙ sym (add-suc k i)
 
 -- the number i + 1 is answered exactly where the check at place i applies and none before it does
 pub first-exact : (checks : List Check) → CountedFrom 1 checks → (i : ℕ) → (firstOf checks ≡ i + 1) ↔ FirstAt checks i
 first-exact checks counted i = (
   λ e. first-place 1 checks counted (suc-le-suc zero-le) i (omega arith),
-  λ f. first-number 1 checks counted i f ∙ omega arith,
+  λ f. first-given 0 checks i f ∙ counted-at 1 checks counted i (f .applies) ∙ omega arith,
 )
 
 -- none of the checks bears the number 0
 abbrev pub numbered : List Check → Bool
-numbered [] = true
-numbered ((m when t) ∷ rest) = ltb 0 m && numbered rest
-
-numbered-both : (m : ℕ) (rest : List Check) → (ltb 0 m && numbered rest) ≡ true → (0 < m) × (numbered rest ≡ true)
-numbered-both m rest e =
-    let both = and-eq-true-iff (ltb 0 m) (numbered rest) .0 e in (ltb-true 0 m (both .0), both .1)
+numbered checks = others (λ (k : ℕ). eqb k 0) checks
 
 -- then 0 is answered exactly where none applies
 pub none-exact : (checks : List Check) → numbered checks ≡ true
     → (firstOf checks ≡ 0) ↔ ((i : ℕ) → appliesAt checks i ≡ false)
-none-exact [] named = (λ e i. refl, λ none. refl)
-none-exact ((m when true) ∷ rest) named =
-    (λ e. let pos = numbered-both m rest named .0 in absurd (omega arith), λ none. absurd (true≢false (none 0)))
-none-exact ((m when false) ∷ rest) named =
-    let ih = none-exact rest (numbered-both m rest named .1) in
-    (forward ih, λ none. ih .1 (λ i. none (suc i)))
-  where
-    forward : ((firstOf rest ≡ 0) ↔ ((i : ℕ) → appliesAt rest i ≡ false))
-        → firstOf rest ≡ 0 → (i : ℕ) → appliesAt ((m when false) ∷ rest) i ≡ false
-    forward ih e zero = refl
-    forward ih e (suc i) = ih .0 e i
+none-exact checks named =
+    let zero-given = none-of (λ (k : ℕ). eqb k 0) 0 checks refl named in (
+      λ e. zero-given .0 (eq-eqb (firstOf checks) 0 e),
+      λ h. eqb-true (firstOf checks) 0 (zero-given .1 h),
+    )
+
+numbered-both : (m : ℕ) (rest : List Check) → numbered ((m when false) ∷ rest) ≡ true
+    → (m ≡ 0 → ⊥) × (numbered rest ≡ true)
+numbered-both m rest e =
+    let both = others-both (λ (k : ℕ). eqb k 0) m rest e in (eqb-false m 0 (both .0), both .1)
 
 -- behind checks of which none applies, the first is that of the rest; else it stays what it was
 pub first-behind : (checks rest : List Check) → numbered checks ≡ true → firstOf checks ≡ 0
@@ -108,8 +153,4 @@ first-before ((m when false) ∷ checks) rest some = first-before checks rest so
 -- what is answered, if not 0, is the number of the first check that applies
 pub first-applies : (checks : List Check) → (firstOf checks ≡ 0 → ⊥)
     → (i : ℕ) × FirstAt checks i × (firstOf checks ≡ numberOf checks i)
-first-applies [] some = absurd (some refl)
-first-applies ((m when true) ∷ rest) some =
-    (0, record { applies = refl; none-before = λ j h. absurd (not-suc-le-zero h) }, refl)
-first-applies ((m when false) ∷ rest) some =
-    let later = first-applies rest some in (suc (later .0), skip (later .1), later .2)
+first-applies = first-shown 0

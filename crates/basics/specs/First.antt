@@ -1,33 +1,43 @@
-use Rattle.basics.specs.Choice.{if_then_else_}
--- Numbers that are checked in an order, as the paper's marks and refusals are: the first that applies is answered, and
--- 0 where none does.
+-- Answers that are asked for in an order, as the paper's marks and refusals are: the first that applies is given, and
+-- where none does another; for numbers that is 0.
 use mathlib.Core.Path.{_≡_}
 use mathlib.Core.Bool.{Bool, true, false}
 use mathlib.Core.List.{List, [], _∷_}
 use Prim.Native.Nat.{ℕ, zero, suc, _<_}
+use Rattle.basics.specs.Choice.{if_then_else_}
 
 infix 15 _when_
--- a number, and the test by which it applies
-pub data Check : Type 0 where
-  _when_ : ℕ → Bool → Check
+-- an answer, and the test by which it applies
+pub data CheckFor (A : Type 0) : Type 0 where
+  _when_ : A → Bool → CheckFor A
+
+abbrev pub Check : Type 0
+Check = CheckFor ℕ
+
+module _ {A : Type 0} where
+  abbrev pub firstOr : A → List (CheckFor A) → A
+  firstOr none [] = none
+  firstOr none ((a when t) ∷ rest) = if t then a else firstOr none rest
+
+  -- the outcome of the test at place i of the order; past its end a test that fails
+  abbrev pub appliesAt : List (CheckFor A) → ℕ → Bool
+  appliesAt [] i = false
+  appliesAt ((a when t) ∷ rest) zero = t
+  appliesAt ((a when t) ∷ rest) (suc i) = appliesAt rest i
+
+  -- the answer of the check at place i; past the end the other
+  abbrev pub answerOr : A → List (CheckFor A) → ℕ → A
+  answerOr none [] i = none
+  answerOr none ((a when t) ∷ rest) zero = a
+  answerOr none ((a when t) ∷ rest) (suc i) = answerOr none rest i
+
+  -- the check at place i applies, and none before it does
+  pub record FirstAt (checks : List (CheckFor A)) (i : ℕ) : Type 0 where
+    pub applies : appliesAt checks i ≡ true
+    pub none-before : (j : ℕ) → j < i → appliesAt checks j ≡ false
 
 abbrev pub firstOf : List Check → ℕ
-firstOf [] = 0
-firstOf ((k when t) ∷ rest) = if t then k else firstOf rest
+firstOf checks = firstOr 0 checks
 
--- the outcome of the test at place i of the order; past its end a test that fails
-abbrev pub appliesAt : List Check → ℕ → Bool
-appliesAt [] i = false
-appliesAt ((k when t) ∷ rest) zero = t
-appliesAt ((k when t) ∷ rest) (suc i) = appliesAt rest i
-
--- the number of the check at place i; 0 past the end
 abbrev pub numberOf : List Check → ℕ → ℕ
-numberOf [] i = 0
-numberOf ((k when t) ∷ rest) zero = k
-numberOf ((k when t) ∷ rest) (suc i) = numberOf rest i
-
--- the check at place i applies, and none before it does
-pub record FirstAt (checks : List Check) (i : ℕ) : Type 0 where
-  pub applies : appliesAt checks i ≡ true
-  pub none-before : (j : ℕ) → j < i → appliesAt checks j ≡ false
+numberOf checks i = answerOr 0 checks i

@@ -6,15 +6,18 @@ use mathlib.Core.Logic.{_↔_}
 use Prim.Native.Nat.{ℕ, _+_, _*_, _/_, _%_, _≤_, _<_}
 use native.Mathlib.Omega.{arith}
 use lib.Dec.{leb, ltb, eqb, lit<}
-use borrow.Author.Tests.{ltb-true, lt-leb, leb-true, ltb-false, eqb-true, eqb-false, ne-eqb, le-leb, le-ltb, not-false}
+use lib.ListN.{drop}
+use borrow.Author.Tests.{ltb-true, lt-leb, leb-true, ltb-false, eqb-true, eqb-false, eq-eqb, ne-eqb, le-leb, le-ltb, not-false}
 use Rattle.basics.specs.Choice.{if_then_else_}
 use Rattle.basics.specs.Answer.{Answers}
 use Rattle.basics.proofs.One.{answers}
-use Rattle.basics.proofs.First.{CountedFrom, none-exact}
-use Rattle.basics.specs.First.{_when_, firstOf}
+use Rattle.basics.proofs.First.{never-given, none-of}
+use Rattle.basics.specs.First.{_when_, firstOr}
 use Rattle.pair.specs.Request.{requests, listed, carries}
-use Rattle.pair.specs.Marks.{codeOf, channelOf, bridgedOf, bit5, lineBits, pairFaults, mark}
-use Rattle.pair.specs.Coder.{sectionsFit, decodingTold, decodingCase, decoding}
+use Rattle.pair.specs.Marks.{codeOf, channelOf, bridgedOf, bit5, lineBits}
+use Rattle.pair.specs.Marks.{Finding, nothing, alarmed, marked, pairChecks, finding, isNothing, isAlarm, markIn}
+use Rattle.pair.specs.Marks.{usable, alarm, mark, alarmIn}
+use Rattle.pair.specs.Coder.{sectionsFit, decodingTold, decodingCase, pairOf, decodingOf, decoding}
 use Rattle.pair.specs.Coder.{lineOf, encodingTold, encodingCase, encodable, encoding}
 use Rattle.pair.specs.declared.Pair.{Pair}
 use Rattle.pair.specs.declared.Decoded.{Decoded}
@@ -24,15 +27,29 @@ use Rattle.pair.specs.declared.Encoded.the-variants as encoded
 use Rattle.pair.proofs.Rows.{carried-below, carried-within, carried-listed}
 use Rattle.pair.proofs.Words.{bitIn, bit-in}
 
+-- no fault has mark 0
+abbrev unnamed : Finding → Bool
+unnamed nothing = false
+unnamed alarmed = false
+unnamed (marked m) = eqb m 0
+
+finding-named : (n k1 k2 : ℕ) → unnamed (finding n k1 k2) ≡ false
+unfolding finding
+finding-named n k1 k2 = never-given unnamed nothing (pairChecks n k1 k2) refl refl
+
+told-back : (k1 k2 : ℕ) (f : Finding) → unnamed f ≡ false
+    → decodingTold (decodingCase (decodingOf k1 k2 f)) ≡ decodingOf k1 k2 f
+told-back k1 k2 nothing h = refl
+told-back k1 k2 alarmed h = refl
+told-back k1 k2 (marked m) h = rw h
+
 decoding-whole : (n k1 k2 : ℕ) → decodingTold (decodingCase (decoding n k1 k2)) ≡ decoding n k1 k2
 unfolding decoding
-decoding-whole n k1 k2 = go (sectionsFit n) (eqb (mark n k1 k2) 0) refl refl
+decoding-whole n k1 k2 = go (sectionsFit n) refl
   where
-    go : (f z : Bool) → sectionsFit n ≡ f → eqb (mark n k1 k2) 0 ≡ z
-        → decodingTold (decodingCase (decoding n k1 k2)) ≡ decoding n k1 k2
-    go true true fits zero = rw (fits, zero)
-    go true false fits zero = rw (fits, zero) (rw zero)
-    go false z fits zero = rw fits
+    go : (t : Bool) → sectionsFit n ≡ t → decodingTold (decodingCase (decoding n k1 k2)) ≡ decoding n k1 k2
+    go true fits = rw fits (told-back k1 k2 (finding n k1 k2) (finding-named n k1 k2))
+    go false fits = rw fits
 
 pub decoded-by : (n k1 k2 : ℕ) {r : Decoded} → r ≡ decodingCase (decoding n k1 k2)
     → Answers decodingTold decodingCase (decoding n k1 k2) r
@@ -73,30 +90,35 @@ four-bits n p fits h =
       bridged = omega arith;
     }
 
--- the record that a usable pair decodes to
-abbrev pub pairOf : ℕ → ℕ → Pair
-pairOf k1 k2 =
-    record { code = codeOf k1; channel = channelOf k1; bridged = bridgedOf k2; remote = eqb (lineBits k2) 0b110 }
-
-pub fit-decoding : (n k1 k2 : ℕ) {m : ℕ} → sectionsFit n ≡ true → m ≡ mark n k1 k2
-    → decodingCase (decoding n k1 k2) ≡ (if eqb m 0 then decoded.Usable (pairOf k1 k2) else decoded.Marked m)
+-- within 1..14 the answer goes by the finding
+pub fit-decoding : (n k1 k2 : ℕ) {f : Finding} → sectionsFit n ≡ true → finding n k1 k2 ≡ f
+    → decodingCase (decoding n k1 k2) ≡ decodingCase (decodingOf k1 k2 f)
 unfolding decoding
-fit-decoding n k1 k2 {m} fits e = go (eqb m 0) refl
-  where
-    go : (z : Bool) → eqb m 0 ≡ z
-        → decodingCase (decoding n k1 k2) ≡ (if eqb m 0 then decoded.Usable (pairOf k1 k2) else decoded.Marked m)
-    go true z = simp (fits, ← e, z)
-    go false z = simp (fits, ← e, z)
+fit-decoding n k1 k2 fits e = rw (fits, e)
+
+pub unfit-decoding : (n k1 k2 : ℕ) → sectionsFit n ≡ false → decodingCase (decoding n k1 k2) ≡ decoded.Refused 1
+unfolding decoding
+unfit-decoding n k1 k2 other = rw other
 
 pub fit-mark : (n k1 k2 : ℕ) → sectionsFit n ≡ true → decoding n k1 k2 .mark ≡ mark n k1 k2
-unfolding decoding
-fit-mark n k1 k2 fits = go (eqb (mark n k1 k2) 0) refl
+unfolding decoding mark
+fit-mark n k1 k2 fits = rw fits (go (finding n k1 k2))
   where
-    go : (z : Bool) → eqb (mark n k1 k2) 0 ≡ z → decoding n k1 k2 .mark ≡ mark n k1 k2
-    go true z = rw (fits, z) (sym (eqb-true (mark n k1 k2) 0 z))
-    go false z = rw (fits, z)
+    go : (f : Finding) → decodingOf k1 k2 f .mark ≡ markIn f
+    go nothing = refl
+    go alarmed = refl
+    go (marked m) = refl
 
--- what the five checks leave of a usable pair
+pub fit-alarm : (n k1 k2 : ℕ) → sectionsFit n ≡ true → decoding n k1 k2 .alarm ≡ alarm n k1 k2
+unfolding decoding alarm
+fit-alarm n k1 k2 fits = rw fits (go (finding n k1 k2))
+  where
+    go : (f : Finding) → decodingOf k1 k2 f .alarm ≡ isAlarm f
+    go nothing = refl
+    go alarmed = refl
+    go (marked m) = refl
+
+-- what the checks leave of a usable pair
 pub record UsablePair (n k1 k2 : ℕ) : Type 0 where
   pub fits : sectionsFit n ≡ true
   pub one : bit5 k2 ≡ 1
@@ -112,20 +134,17 @@ line-given l h = go (eqb l 0b000) (eqb l 0b110) refl refl
     go true false ea eb = rw eb (sym (eqb-true l 0b000 ea))
     go false false ea eb = absurd (false≢true (sym (rw (ea, eb) at h)))
 
-pub faults-counted : (n k1 k2 : ℕ) → CountedFrom 1 (pairFaults n k1 k2)
-faults-counted n k1 k2 = (refl, (refl, (refl, (refl, (refl, tt)))))
-
-pub unmarked : (n k1 k2 : ℕ) → sectionsFit n ≡ true → mark n k1 k2 ≡ 0 → UsablePair n k1 k2
-unfolding mark
-unmarked n k1 k2 fits h =
-    let none = none-exact (pairFaults n k1 k2) refl .0 h in
+pub usable-parts : (n k1 k2 : ℕ) → sectionsFit n ≡ true → usable n k1 k2 ≡ true → UsablePair n k1 k2
+unfolding usable finding
+usable-parts n k1 k2 fits h =
+    let none = none-of isNothing nothing (pairChecks n k1 k2) refl refl .0 h in
     let bit : bit5 k2 ≡ 0 → ⊥ = eqb-false (bit5 k2) 0 (none 0) in
-    let below : bridgedOf k2 ≤ n = ltb-false n (bridgedOf k2) (none 4) in
+    let below : bridgedOf k2 ≤ n = ltb-false n (bridgedOf k2) (none 5) in
     record {
       fits = fits;
       one = omega arith;
-      line = line-given (lineBits k2) (none 1);
-      carried = not-false (carries requests n (codeOf k1) (channelOf k1)) (none 3);
+      line = line-given (lineBits k2) (none 2);
+      carried = not-false (carries requests n (codeOf k1) (channelOf k1)) (none 4);
       bridged = le-leb (bridgedOf k2) n below;
     }
 
@@ -137,34 +156,55 @@ line-taken l h = go (eqb l 0b000) (eqb l 0b110) refl refl
     go false true ea eb = rw (ea, eb)
     go false false ea eb = absurd (eqb-false l 0b000 ea (sym (rw eb at h)))
 
-pub mark-none : (n k1 k2 : ℕ) → UsablePair n k1 k2 → mark n k1 k2 ≡ 0
-unfolding mark
-mark-none n k1 k2 u =
+-- and none of them is 111
+line-usable : (l : ℕ) → lineOf (eqb l 0b110) ≡ l → eqb l 0b111 ≡ false
+line-usable l h = go (eqb l 0b110) refl
+  where
+    go : (t : Bool) → eqb l 0b110 ≡ t → eqb l 0b111 ≡ false
+    go true e = let six : l ≡ 0b110 = eqb-true l 0b110 e in ne-eqb l 0b111 (omega arith)
+    go false e = let zero : 0 ≡ l = rw e at h in ne-eqb l 0b111 (omega arith)
+
+pub parts-usable : (n k1 k2 : ℕ) → UsablePair n k1 k2 → usable n k1 k2 ≡ true
+unfolding usable finding
+parts-usable n k1 k2 u =
     let one = u .one in
     let bit : eqb (bit5 k2) 0 ≡ false = ne-eqb (bit5 k2) 0 (omega arith) in
     let known = carried-listed requests n (codeOf k1) (channelOf k1) (u .carried) in
     let below : ltb n (bridgedOf k2) ≡ false = le-ltb n (bridgedOf k2) (leb-true (bridgedOf k2) n (u .bridged)) in
-    rw (bit, line-taken (lineBits k2) (u .line), known, u .carried, below)
+    rw (bit, line-usable (lineBits k2) (u .line), line-taken (lineBits k2) (u .line), known, u .carried, below)
+
+-- a usable pair is one in which nothing is found
+pub nothing-found : (n k1 k2 : ℕ) → usable n k1 k2 ≡ true → finding n k1 k2 ≡ nothing
+unfolding usable
+nothing-found n k1 k2 h = go (finding n k1 k2) refl
+  where
+    go : (f : Finding) → finding n k1 k2 ≡ f → finding n k1 k2 ≡ nothing
+    go nothing e = e
+    go alarmed e = absurd (false≢true (rw e at h))
+    go (marked m) e = absurd (false≢true (rw e at h))
 
 pub usable-facts : (n k1 k2 : ℕ) (p : Pair) → decodingCase (decoding n k1 k2) ≡ decoded.Usable p
     → UsablePair n k1 k2 × (p ≡ pairOf k1 k2)
-unfolding decoding
-usable-facts n k1 k2 p h = go (sectionsFit n) (eqb (mark n k1 k2) 0) refl refl
+unfolding decoding usable
+usable-facts n k1 k2 p h = go (sectionsFit n) (finding n k1 k2) refl refl
   where
-    go : (f z : Bool) → sectionsFit n ≡ f → eqb (mark n k1 k2) 0 ≡ z → UsablePair n k1 k2 × (p ≡ pairOf k1 k2)
-    go true true fits zero =
-        let e : decoded.Usable (pairOf k1 k2) ≡ decoded.Usable p = rw (fits, zero) at h in
-        (unmarked n k1 k2 fits (eqb-true (mark n k1 k2) 0 zero), cc)
-    go true false fits zero =
-        let e : decoded.Marked (mark n k1 k2) ≡ decoded.Usable p = simp (fits, zero) at h in
+    go : (t : Bool) (f : Finding) → sectionsFit n ≡ t → finding n k1 k2 ≡ f → UsablePair n k1 k2 × (p ≡ pairOf k1 k2)
+    go true nothing fits e =
+        let given : decoded.Usable (pairOf k1 k2) ≡ decoded.Usable p = rw (fits, e) at h in
+        (usable-parts n k1 k2 fits (rw e), cc)
+    go true alarmed fits e =
+        let given : decoded.Alarm ≡ decoded.Usable p = rw (fits, e) at h in
         let none : _≡_ {A = ℕ} 0 1 = cc in absurd (omega arith)
-    go false z fits zero =
-        let e : decoded.Refused 1 ≡ decoded.Usable p = rw fits at h in
+    go true (marked m) fits e =
+        let named : eqb m 0 ≡ false = rw e at (finding-named n k1 k2) in
+        let given : decoded.Marked m ≡ decoded.Usable p = simp (fits, e, named) at h in
+        let none : _≡_ {A = ℕ} 0 1 = cc in absurd (omega arith)
+    go false f fits e =
+        let given : decoded.Refused 1 ≡ decoded.Usable p = rw fits at h in
         let none : _≡_ {A = ℕ} 0 1 = cc in absurd (omega arith)
 
 pub facts-usable : (n k1 k2 : ℕ) → UsablePair n k1 k2 → decodingCase (decoding n k1 k2) ≡ decoded.Usable (pairOf k1 k2)
-unfolding decoding
-facts-usable n k1 k2 u = rw (u .fits, mark-none n k1 k2 u)
+facts-usable n k1 k2 u = fit-decoding n k1 k2 (u .fits) (nothing-found n k1 k2 (parts-usable n k1 k2 u))
 
 -- the bytes that a record is encoded to
 abbrev pub firstByte : Pair → ℕ
@@ -261,22 +301,32 @@ encodable-exact n p fits = (forward, backward)
 
 -- no check applies: the test of each but that of the code, since a code that carries a channel is listed
 on-line : (l c t : Bool) → (c ≡ true → l ≡ true)
-    → c && not t ≡ eqb (firstOf ((3 when not l) ∷ (4 when not c) ∷ (5 when t) ∷ [])) 0
+    → c && not t ≡ isNothing (firstOr nothing ((marked 3 when not l) ∷ (marked 4 when not c) ∷ (marked 5 when t) ∷ []))
 on-line true true true h = refl
 on-line true true false h = refl
 on-line true false t h = refl
 on-line false true t h = absurd (false≢true (h refl))
 on-line false false t h = refl
 
-no-mark : (z a b l c t : Bool) → (c ≡ true → l ≡ true)
+no-fault : (z g a b l c t : Bool) → (c ≡ true → l ≡ true) → (g ≡ true → a || b ≡ false)
     → c && (not z && (a || b) && not t)
-    ≡ eqb (firstOf ((1 when z) ∷ (2 when not a && not b) ∷ (3 when not l) ∷ (4 when not c) ∷ (5 when t) ∷ [])) 0
-no-mark true a b l true t h = refl
-no-mark true a b l false t h = refl
-no-mark false false false l true t h = refl
-no-mark false false false l false t h = refl
-no-mark false true b l c t h = on-line l c t h
-no-mark false false true l c t h = on-line l c t h
+    ≡ isNothing
+    (firstOr nothing
+    ((marked 1 when z)
+    ∷ (alarmed when g)
+    ∷ (marked 2 when not a && not b)
+    ∷ (marked 3 when not l)
+    ∷ (marked 4 when not c)
+    ∷ (marked 5 when t)
+    ∷ []))
+no-fault true g a b l true t h k = refl
+no-fault true g a b l false t h k = refl
+no-fault false true a b l true t h k = rw (k refl)
+no-fault false true a b l false t h k = refl
+no-fault false false false false l true t h k = refl
+no-fault false false false false l false t h k = refl
+no-fault false false true b l c t h k = on-line l c t h
+no-fault false false false true l c t h k = on-line l c t h
 
 leb-not : (m n : ℕ) → leb m n ≡ not (ltb n m)
 leb-not m n = go (ltb n m) refl
@@ -299,13 +349,41 @@ lower-word k2 =
     let word = bit-in lowerFits 0b0100000100000000 refl (k2 % 16) (omega arith) in
     rw (five, line) at word
 
+line-other : (l : ℕ) → eqb l 0b111 ≡ true → eqb l 0b000 || eqb l 0b110 ≡ false
+line-other l e = let seven : l ≡ 0b111 = eqb-true l 0b111 e in rw seven
+
 pub usable-test : (n k1 k2 : ℕ)
     → carries requests n (codeOf k1) (channelOf k1)
     && (eqb (bitIn 0b0100000100000000 (k2 % 16)) 1 && leb (bridgedOf k2) n)
-    ≡ eqb (mark n k1 k2) 0
-unfolding mark
+    ≡ usable n k1 k2
+unfolding usable finding
 usable-test n k1 k2 =
     rw (lower-word k2, leb-not (bridgedOf k2) n)
-    (no-mark (eqb (bit5 k2) 0) (eqb (lineBits k2) 0b000) (eqb (lineBits k2) 0b110) (listed requests (codeOf k1))
-    (carries requests n (codeOf k1) (channelOf k1)) (ltb n (bridgedOf k2))
-    (carried-listed requests n (codeOf k1) (channelOf k1)))
+    (no-fault (eqb (bit5 k2) 0) (eqb (lineBits k2) 0b111) (eqb (lineBits k2) 0b000) (eqb (lineBits k2) 0b110)
+    (listed requests (codeOf k1)) (carries requests n (codeOf k1) (channelOf k1)) (ltb n (bridgedOf k2))
+    (carried-listed requests n (codeOf k1) (channelOf k1)) (line-other (lineBits k2)))
+
+-- an alarm: bit 5 and the line bits, whatever n and K1 are
+alarm-bits : (k2 : ℕ) → alarmIn k2 ≡ not (eqb (bit5 k2) 0) && eqb (lineBits k2) 0b111
+alarm-bits k2 = go (eqb (bit5 k2) 0) (eqb (lineBits k2) 0b111) refl refl
+  where
+    go : (z g : Bool) → eqb (bit5 k2) 0 ≡ z → eqb (lineBits k2) 0b111 ≡ g
+        → alarmIn k2 ≡ not (eqb (bit5 k2) 0) && eqb (lineBits k2) 0b111
+    go true g e f = let zero : bit5 k2 ≡ 0 = eqb-true (bit5 k2) 0 e in rw e (ne-eqb (k2 % 16) 0b1111 (omega arith))
+    go false true e f =
+        let one : bit5 k2 ≡ 0 → ⊥ = eqb-false (bit5 k2) 0 e in
+        let seven : lineBits k2 ≡ 0b111 = eqb-true (lineBits k2) 0b111 f in
+        rw (e, f) (eq-eqb (k2 % 16) 0b1111 (omega arith))
+    go false false e f =
+        let other : lineBits k2 ≡ 0b111 → ⊥ = eqb-false (lineBits k2) 0b111 f in
+        rw (e, f) (ne-eqb (k2 % 16) 0b1111 (omega arith))
+
+pub alarm-test : (n k1 k2 : ℕ) → alarm n k1 k2 ≡ alarmIn k2
+unfolding alarm finding
+alarm-test n k1 k2 = go (eqb (bit5 k2) 0) (eqb (lineBits k2) 0b111) ∙ sym (alarm-bits k2)
+  where
+    go : (z g : Bool)
+        → isAlarm (firstOr nothing ((marked 1 when z) ∷ (alarmed when g) ∷ drop 2 (pairChecks n k1 k2))) ≡ not z && g
+    go true g = refl
+    go false true = refl
+    go false false = never-given isAlarm nothing (drop 2 (pairChecks n k1 k2)) refl refl

@@ -2,18 +2,18 @@
 use mathlib.Core.Path.{_≡_, refl}
 use mathlib.Core.Bool.{true, false}
 use mathlib.Core.Logic.{_↔_}
-use Prim.Native.Nat.{ℕ, _+_, _<_, _≤_}
+use Prim.Native.Nat.{ℕ, _<_, _≤_}
 use lib.ListN.{length}
-use Rattle.basics.specs.First.{appliesAt, FirstAt}
-use Rattle.basics.proofs.First.{first-exact, none-exact}
+use Rattle.basics.specs.First.{appliesAt, answerOr, FirstAt}
+use Rattle.basics.proofs.First.{first-given, first-shown, none-of}
 use Rattle.basics.proofs.One.{OneAnswer, one-value, one-case}
 use Rattle.pair.specs.Request.{forcedCode, failHighCode, requests, stands, rankOf}
-use Rattle.pair.specs.Marks.{pairFaults, mark}
+use Rattle.pair.specs.Marks.{nothing, pairChecks, finding, isNothing, usable, alarm, mark, alarmIn}
 use Rattle.pair.specs.Coder.{sectionsFit, decodingCase, decoding, encodingCase, encodable, encoding}
 use Rattle.pair.specs.declared.Pair.{Pair}
 use Rattle.pair.specs.declared.Decoded.the-variants as decoded
 use Rattle.pair.specs.declared.Encoded.the-variants as encoded
-use Rattle.pair.proofs.Coding.{faults-counted, pair-back, record-back, encodable-exact}
+use Rattle.pair.proofs.Coding.{fit-mark, fit-alarm, pair-back, record-back, encodable-exact, alarm-test}
 use Rattle.pair.proofs.Ranks.{rowAt, row-rank, usable-row, fail-outranks, rank-most, rank-own}
 use Rattle.pair.proofs.sections_fit.Kinds as sections-fit-kinds
 use Rattle.pair.proofs.sections_fit.Reads as sections-fit
@@ -40,12 +40,16 @@ use Rattle.pair.proofs.request.carries.Reads as carries
 use Rattle.pair.proofs.request.carries.Statement as carries-statement
 use Rattle.pair.proofs.request.carries.Met as carries-met
 use Rattle.pair.proofs.mark.usable.Kinds as usable-kinds
-use Rattle.pair.proofs.mark.usable.Reads as usable
+use Rattle.pair.proofs.mark.usable.Reads as usable-fn
 use Rattle.pair.proofs.mark.usable.Statement as usable-statement
 use Rattle.pair.proofs.mark.usable.Met as usable-met
+use Rattle.pair.proofs.mark.alarm.Kinds as alarm-kinds
+use Rattle.pair.proofs.mark.alarm.Reads as alarm-fn
+use Rattle.pair.proofs.mark.alarm.Statement as alarm-statement
+use Rattle.pair.proofs.mark.alarm.Met as alarm-met
 
 -- Each public function answers what its definition says, for every input. (`statement` is the contract, as the checker
--- reads it off the source; it asks nothing of the caller. The last three are open to the crates above alone.)
+-- reads it off the source; it asks nothing of the caller. The last four are open to the crates above alone.)
 sections-fit-right : {M : Type 1} → sections-fit-statement.statement M
 sections-fit-right = sections-fit-met.met
 
@@ -67,6 +71,9 @@ carries-right = carries-met.met
 usable-right : {M : Type 1} → usable-statement.statement M
 usable-right = usable-met.met
 
+alarm-right : {M : Type 1} → alarm-statement.statement M
+alarm-right = alarm-met.met
+
 -- Decoding a usable pair and encoding the record gives the pair back.
 pair-right : (n k1 k2 : ℕ) (p : Pair) → decodingCase (decoding n k1 k2) ≡ decoded.Usable p
     → encodingCase (encoding n p) ≡ encoded.Bytes k1 k2
@@ -83,15 +90,32 @@ encodable-right : (n : ℕ) (p : Pair) → sectionsFit n ≡ true
     ↔ ((k1 : ℕ) × (k2 : ℕ) × (k1 < 256) × (k2 < 256) × (decodingCase (decoding n k1 k2) ≡ decoded.Usable p))
 encodable-right = encodable-exact
 
--- The marks come in the paper's order: a pair has mark i + 1 exactly if the fault at place i is its first, so that a
--- pair with several faults has one mark, and a pair is usable exactly if it has no fault.
-marks-right : (n k1 k2 i : ℕ) → (mark n k1 k2 ≡ i + 1) ↔ FirstAt (pairFaults n k1 k2) i
-unfolding mark
-marks-right n k1 k2 = first-exact (pairFaults n k1 k2) (faults-counted n k1 k2)
+-- What is found in a pair is the answer of the first check, in the paper's order, that applies, so that a pair with
+-- several faults has one mark, and an alarm is no mark and comes behind mark 1 alone; and what is found, if anything, is
+-- found so. A pair is usable exactly if no check applies.
+marks-right : (n k1 k2 i : ℕ) → FirstAt (pairChecks n k1 k2) i
+    → finding n k1 k2 ≡ answerOr nothing (pairChecks n k1 k2) i
+unfolding finding
+marks-right n k1 k2 = first-given nothing (pairChecks n k1 k2)
 
-marks-complete : (n k1 k2 : ℕ) → (mark n k1 k2 ≡ 0) ↔ ((i : ℕ) → appliesAt (pairFaults n k1 k2) i ≡ false)
-unfolding mark
-marks-complete n k1 k2 = none-exact (pairFaults n k1 k2) refl
+marks-complete : (n k1 k2 : ℕ) → (finding n k1 k2 ≡ nothing → ⊥)
+    → (i : ℕ)
+    × FirstAt (pairChecks n k1 k2) i
+    × (finding n k1 k2 ≡ answerOr nothing (pairChecks n k1 k2) i)
+unfolding finding
+marks-complete n k1 k2 = first-shown nothing (pairChecks n k1 k2)
+
+usable-complete : (n k1 k2 : ℕ) → (usable n k1 k2 ≡ true) ↔ ((i : ℕ) → appliesAt (pairChecks n k1 k2) i ≡ false)
+unfolding usable finding
+usable-complete n k1 k2 = none-of isNothing nothing (pairChecks n k1 k2) refl refl
+
+-- The decoder answers the mark and the alarm that are found; and an alarm is one by its K2 alone.
+found-right : (n k1 k2 : ℕ) → sectionsFit n ≡ true
+    → (decoding n k1 k2 .mark ≡ mark n k1 k2) × (decoding n k1 k2 .alarm ≡ alarm n k1 k2)
+found-right n k1 k2 fits = (fit-mark n k1 k2 fits, fit-alarm n k1 k2 fits)
+
+alarm-alone : (n k1 k2 : ℕ) → alarm n k1 k2 ≡ alarmIn k2
+alarm-alone = alarm-test
 
 -- The request of a usable pair stands in a row of the table, and has the rank of each row that it stands in.
 row-complete : (n k1 k2 : ℕ) (p : Pair) → decodingCase (decoding n k1 k2) ≡ decoded.Usable p
@@ -126,11 +150,13 @@ encode-unique κs args x y s t p q = one-case p q
 rank-unique : OneAnswer 0 rank-kinds.ps rank-kinds.r rank.Post
 rank-unique κs args x y s t p q = one-value p q
 
--- So it is for what is open to the crates above alone: `packed_rank`, `carries`, `usable`.
+-- So it is for what is open to the crates above alone: `packed_rank`, `carries`, `usable`, `alarm`.
 shared-unique : OneAnswer 0 packed-rank-kinds.ps packed-rank-kinds.r packed-rank.Post
     × OneAnswer 0 carries-kinds.ps carries-kinds.r carries.Post
-    × OneAnswer 0 usable-kinds.ps usable-kinds.r usable.Post
+    × OneAnswer 0 usable-kinds.ps usable-kinds.r usable-fn.Post
+    × OneAnswer 0 alarm-kinds.ps alarm-kinds.r alarm-fn.Post
 shared-unique = (
+  λ κs args x y s t p q. one-value p q,
   λ κs args x y s t p q. one-value p q,
   λ κs args x y s t p q. one-value p q,
   λ κs args x y s t p q. one-value p q,

@@ -1,10 +1,10 @@
 -- Decoding and encoding: the numbers that the paper has for each answer, and the case of the enum that holds them.
-use mathlib.Core.Bool.{Bool, false, _&&_}
+use mathlib.Core.Bool.{Bool, true, false, _&&_}
 use Prim.Native.Nat.{ℕ, _+_, _*_}
 use lib.Dec.{leb, eqb}
 use Rattle.basics.specs.Choice.{if_then_else_}
 use Rattle.pair.specs.Request.{requests, carries}
-use Rattle.pair.specs.Marks.{codeOf, channelOf, bridgedOf, lineBits, mark}
+use Rattle.pair.specs.Marks.{codeOf, channelOf, bridgedOf, lineBits, Finding, nothing, alarmed, marked, finding}
 use Rattle.pair.specs.declared.Pair.{Pair}
 use Rattle.pair.specs.declared.Decoded.{Decoded}
 use Rattle.pair.specs.declared.Decoded.the-variants as decoded
@@ -23,41 +23,57 @@ pub record Decoding : Type 0 where
   pub channel : ℕ
   pub bridged : ℕ
   pub remote : Bool
+  pub alarm : Bool
 
--- a refusal, or a mark, alone: zeros elsewhere
-abbrev pub alone : ℕ → ℕ → Decoding
-alone k m = record { refusal = k; mark = m; code = 0; channel = 0; bridged = 0; remote = false }
+-- the record of a usable pair
+abbrev pub recordOf : Pair → Decoding
+recordOf p =
+    record {
+      refusal = 0;
+      mark = 0;
+      code = p .code;
+      channel = p .channel;
+      bridged = p .bridged;
+      remote = p .remote;
+      alarm = false;
+    }
+
+-- a refusal, a mark, or the alarm, alone: zeros elsewhere
+abbrev pub alone : ℕ → ℕ → Bool → Decoding
+alone k m a =
+    record { refusal = k; mark = m; code = 0; channel = 0; bridged = 0; remote = false; alarm = a }
 
 -- the numbers that each case of the enum stands for
 abbrev pub decodingTold : Decoded → Decoding
-decodingTold (decoded.Usable p) =
-    record { refusal = 0; mark = 0; code = p .code; channel = p .channel; bridged = p .bridged; remote = p .remote }
-decodingTold (decoded.Marked m) = alone 0 m
-decodingTold (decoded.Refused k) = alone k 0
+decodingTold (decoded.Usable p) = recordOf p
+decodingTold (decoded.Marked m) = alone 0 m false
+decodingTold decoded.Alarm = alone 0 0 true
+decodingTold (decoded.Refused k) = alone k 0 false
 
 -- the case that numbers call for
 abbrev pub decodingCase : Decoding → Decoded
 decodingCase d =
     if eqb (d .refusal) 0 then
+    if d .alarm then decoded.Alarm else
     if eqb (d .mark) 0 then
     decoded.Usable (record { code = d .code; channel = d .channel; bridged = d .bridged; remote = d .remote })
     else decoded.Marked (d .mark)
     else decoded.Refused (d .refusal)
 
+-- what a usable pair holds
+abbrev pub pairOf : ℕ → ℕ → Pair
+pairOf k1 k2 =
+    record { code = codeOf k1; channel = channelOf k1; bridged = bridgedOf k2; remote = eqb (lineBits k2) 0b110 }
+
+-- what is answered to a finding
+abbrev pub decodingOf : ℕ → ℕ → Finding → Decoding
+decodingOf k1 k2 nothing = recordOf (pairOf k1 k2)
+decodingOf k1 k2 alarmed = alone 0 0 true
+decodingOf k1 k2 (marked m) = alone 0 m false
+
+-- n is looked at first
 unfoldable pub decoding : ℕ → ℕ → ℕ → Decoding
-decoding n k1 k2 =
-    if sectionsFit n then
-    if eqb (mark n k1 k2) 0 then
-    record {
-      refusal = 0;
-      mark = 0;
-      code = codeOf k1;
-      channel = channelOf k1;
-      bridged = bridgedOf k2;
-      remote = eqb (lineBits k2) 0b110;
-    }
-    else alone 0 (mark n k1 k2)
-    else alone 1 0
+decoding n k1 k2 = if sectionsFit n then decodingOf k1 k2 (finding n k1 k2) else alone 1 0 false
 
 -- the line bits of a record: 110 for a remote defect
 abbrev pub lineOf : Bool → ℕ

@@ -1,9 +1,9 @@
--- The parts of the two bytes, and the marks in the order in which a pair is checked (01, 'The byte pair').
-use mathlib.Core.Bool.{not, _&&_}
+-- The parts of the two bytes, and what a pair is checked for, in its order (01, 'The byte pair'; 02, c).
+use mathlib.Core.Bool.{Bool, true, false, not, _&&_}
 use mathlib.Core.List.{List, [], _∷_}
 use Prim.Native.Nat.{ℕ, _/_, _%_}
 use lib.Dec.{ltb, eqb}
-use Rattle.basics.specs.First.{Check, _when_, firstOf}
+use Rattle.basics.specs.First.{CheckFor, _when_, firstOr}
 use Rattle.pair.specs.Request.{requests, listed, carries}
 
 -- K1: upper four bits request code, lower four channel
@@ -23,20 +23,56 @@ bit5 k2 = k2 / 8 % 2
 abbrev pub lineBits : ℕ → ℕ
 lineBits k2 = k2 % 8
 
-abbrev pub pairFaults : ℕ → ℕ → ℕ → List Check
-pairFaults n k1 k2 =
+-- what is found in a pair: nothing, an alarm signal, or a fault with its mark
+pub data Finding : Type 0 where
+  nothing alarmed : Finding
+  marked : ℕ → Finding
+
+-- the first that applies is the finding
+abbrev pub pairChecks : ℕ → ℕ → ℕ → List (CheckFor Finding)
+pairChecks n k1 k2 =
     -- bit 5 is 0
-    (1 when eqb (bit5 k2) 0)
-    -- line bits neither 000 nor 110
-    ∷ (2 when not (eqb (lineBits k2) 0b000) && not (eqb (lineBits k2) 0b110))
+    (marked 1 when eqb (bit5 k2) 0)
+    -- line bits 111: the multiplex section carries an alarm signal
+    ∷ (alarmed when eqb (lineBits k2) 0b111)
+    -- other line bits, neither 000 nor 110
+    ∷ (marked 2 when not (eqb (lineBits k2) 0b000) && not (eqb (lineBits k2) 0b110))
     -- code
-    ∷ (3 when not (listed requests (codeOf k1)))
+    ∷ (marked 3 when not (listed requests (codeOf k1)))
     -- K1 channel
-    ∷ (4 when not (carries requests n (codeOf k1) (channelOf k1)))
+    ∷ (marked 4 when not (carries requests n (codeOf k1) (channelOf k1)))
     -- bridged channel above n
-    ∷ (5 when ltb n (bridgedOf k2))
+    ∷ (marked 5 when ltb n (bridgedOf k2))
     ∷ []
 
--- 0 is a usable pair
+unfoldable pub finding : ℕ → ℕ → ℕ → Finding
+finding n k1 k2 = firstOr nothing (pairChecks n k1 k2)
+
+abbrev pub isNothing : Finding → Bool
+isNothing nothing = true
+isNothing alarmed = false
+isNothing (marked m) = false
+
+abbrev pub isAlarm : Finding → Bool
+isAlarm nothing = false
+isAlarm alarmed = true
+isAlarm (marked m) = false
+
+abbrev pub markIn : Finding → ℕ
+markIn nothing = 0
+markIn alarmed = 0
+markIn (marked m) = m
+
+-- the pair is usable; it is an alarm; its mark, which neither has
+unfoldable pub usable : ℕ → ℕ → ℕ → Bool
+usable n k1 k2 = isNothing (finding n k1 k2)
+
+unfoldable pub alarm : ℕ → ℕ → ℕ → Bool
+alarm n k1 k2 = isAlarm (finding n k1 k2)
+
 unfoldable pub mark : ℕ → ℕ → ℕ → ℕ
-mark n k1 k2 = firstOf (pairFaults n k1 k2)
+mark n k1 k2 = markIn (finding n k1 k2)
+
+-- bit 5 is 1 and the line bits are 111: nothing else of a pair makes it an alarm (Theorems.alarm-alone)
+abbrev pub alarmIn : ℕ → Bool
+alarmIn k2 = eqb (k2 % 16) 0b1111

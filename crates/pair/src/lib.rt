@@ -2,8 +2,8 @@
 pub mod mark;
 pub mod request;
 
-use crate::mark::mark_of;
 use crate::request::carries;
+use crate::request::listed;
 ghost use Rattle.basics.specs.Answer.{Answers};
 ghost use Rattle.pair.specs.Coder.{sectionsFit, decodingTold, decodingCase, decoding};
 ghost use Rattle.pair.specs.Coder.{lineOf, encodingTold, encodingCase, encoding};
@@ -17,10 +17,12 @@ pub struct Pair {
     pub remote: bool,
 }
 
-// What a pair decodes to: the record of a usable pair, the mark of an unusable one, or a refusal.
+// What a pair decodes to: the record of a usable pair, the mark of an unusable one, the alarm of line bits 111 (02, c),
+// or a refusal.
 pub enum Decoded {
     Usable(Pair),
     Marked(u8),
+    Alarm,
     Refused(u8),
 }
 
@@ -36,24 +38,42 @@ pub fn sections_fit(n: u8) -> bool
     (1 <= n) & (n <= 14)
 }
 
+// The paper's order of checking.
 pub fn decode(n: u8, k1: u8, k2: u8) -> Decoded
     ensures { λ r. ⌜ Answers decodingTold decodingCase (decoding n k1 k2) r ⌝ }
 {
-    if sections_fit(n) {
-        let mark = mark_of(n, k1, k2);
-        if mark == 0 {
-            Decoded::Usable(Pair {
-                code: k1 / 16,
-                channel: k1 % 16,
-                bridged: k2 / 16,
-                remote: k2 % 8 == 0b110,
-            })
-        } else {
-            Decoded::Marked(mark)
-        }
-    } else {
-        Decoded::Refused(1)
+    let n_fits = sections_fit(n);
+    if !n_fits {
+        return Decoded::Refused(1);
     }
+    let line = k2 % 8;
+    let code_listed = listed(k1 / 16);
+    let channel_carried = carries(n, k1 / 16, k1 % 16);
+    let bridged_above = n < k2 / 16;
+    if k2 / 8 % 2 == 0 {
+        return Decoded::Marked(1);
+    }
+    if line == 0b111 {
+        return Decoded::Alarm;
+    }
+    if (line != 0b000) & (line != 0b110) {
+        return Decoded::Marked(2);
+    }
+    if !code_listed {
+        return Decoded::Marked(3);
+    }
+    if !channel_carried {
+        return Decoded::Marked(4);
+    }
+    if bridged_above {
+        return Decoded::Marked(5);
+    }
+    Decoded::Usable(Pair {
+        code: k1 / 16,
+        channel: k1 % 16,
+        bridged: k2 / 16,
+        remote: line == 0b110,
+    })
 }
 
 fn line_bits(remote: bool) -> u8
