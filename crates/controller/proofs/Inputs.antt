@@ -11,7 +11,7 @@ use Rattle.basics.specs.Choice.{if_then_else_}
 use Rattle.basics.specs.First.{firstOf}
 use Rattle.basics.proofs.First.{CountedFrom, none-exact}
 use Rattle.pair.specs.Request.{requests, carries}
-use Rattle.pair.specs.Marks.{codeOf, channelOf, mark}
+use Rattle.pair.specs.Marks.{codeOf, channelOf, usable}
 use Rattle.pair.specs.Coder.{sectionsFit}
 use Rattle.controller.specs.Settings.{maskFits, settingsFaults}
 use Rattle.controller.specs.Refusals.{againstMask, waitFits, acceptable, conditionsFit, channelFits, stepFaults, refusal}
@@ -47,7 +47,7 @@ well-formed s conditions command c h =
 
 -- what refusal 3 leaves of a record
 pub record Acceptable (s : Controller) : Type 0 where
-  pub usable : mark (s .n) (s .k1) (s .k2) ≡ 0
+  pub pair-usable : usable (s .n) (s .k1) (s .k2) ≡ true
   pub carried : carries requests (s .n) (codeOf (s .sent)) (channelOf (s .sent)) ≡ true
   pub coded : againstMask (s .mask) (codeOf (s .sent)) (channelOf (s .sent)) ≡ false
   pub waits : waitFits (codeOf (s .sent)) (s .w) (s .left) ≡ true
@@ -57,18 +57,18 @@ unfolding acceptable
 acceptable-facts s h =
     let last =
     and-eq-true-iff
-    (eqb (mark (s .n) (s .k1) (s .k2)) 0 && carries requests (s .n) (codeOf (s .sent)) (channelOf (s .sent))
+    (usable (s .n) (s .k1) (s .k2) && carries requests (s .n) (codeOf (s .sent)) (channelOf (s .sent))
     && not (againstMask (s .mask) (codeOf (s .sent)) (channelOf (s .sent))))
     (waitFits (codeOf (s .sent)) (s .w) (s .left)) .0 h in
     let third =
     and-eq-true-iff
-    (eqb (mark (s .n) (s .k1) (s .k2)) 0 && carries requests (s .n) (codeOf (s .sent)) (channelOf (s .sent)))
+    (usable (s .n) (s .k1) (s .k2) && carries requests (s .n) (codeOf (s .sent)) (channelOf (s .sent)))
     (not (againstMask (s .mask) (codeOf (s .sent)) (channelOf (s .sent)))) .0 (last .0) in
     let two =
-    and-eq-true-iff (eqb (mark (s .n) (s .k1) (s .k2)) 0)
+    and-eq-true-iff (usable (s .n) (s .k1) (s .k2))
     (carries requests (s .n) (codeOf (s .sent)) (channelOf (s .sent))) .0 (third .0) in
     record {
-      usable = eqb-true (mark (s .n) (s .k1) (s .k2)) 0 (two .0);
+      pair-usable = two .0;
       carried = two .1;
       coded = not-true (againstMask (s .mask) (codeOf (s .sent)) (channelOf (s .sent))) (third .1);
       waits = last .1;
@@ -76,7 +76,7 @@ acceptable-facts s h =
 
 pub facts-acceptable : (s : Controller) → Acceptable s → acceptable s ≡ true
 unfolding acceptable
-facts-acceptable s a = rw (a .usable, a .carried, a .coded, a .waits)
+facts-acceptable s a = rw (a .pair-usable, a .carried, a .coded, a .waits)
 
 -- the refusals of the settings come first, and then the others
 by-settings : (f m : Bool) (rest : ℕ) →

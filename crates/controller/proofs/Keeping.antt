@@ -10,10 +10,10 @@ use lib.ListN.{length, drop}
 use borrow.Author.Tests.{leb-true, eqb-true, eqb-false, le-leb, le-ltb, ne-eqb}
 use Rattle.basics.proofs.Table.{every}
 use Rattle.pair.specs.Request.{carries}
-use Rattle.pair.specs.Marks.{codeOf, channelOf, lineBits, mark}
+use Rattle.pair.specs.Marks.{codeOf, channelOf, lineBits, usable, alarm}
 use Rattle.pair.specs.Coder.{sectionsFit, encodable}
 use Rattle.pair.specs.declared.Pair.{Pair}
-use Rattle.pair.proofs.Coding.{UsablePair, mark-none, bytes-usable}
+use Rattle.pair.proofs.Coding.{UsablePair, parts-usable, bytes-usable}
 use Rattle.request.specs.Order.{same}
 use Rattle.request.specs.Command.{fate}
 use Rattle.request.specs.Bridge.{bridge}
@@ -23,7 +23,7 @@ use Rattle.controller.specs.Settings.{maskFits, idleK1, idleK2, fresh, m
 use Rattle.controller.specs.Rules.{asked, accepting, held, kept, given, replacesHeld, inForce, isWait, waiting}
 use Rattle.controller.specs.Rules.{localRequest, decided, leftAfter, keepsBridge, k1Of, k2Of}
 use Rattle.controller.specs.Refusals.{waitFits, acceptable, conditionsFit, channelFits, refusal}
-use Rattle.controller.specs.Step.{protection, waitOf, refusedStep, answering, moved, step}
+use Rattle.controller.specs.Step.{protection, waitOf, refusedStep, answering, moved, actsOn, step}
 use Rattle.controller.specs.Run.{Input, inputFits, stepBy, notRefused, run}
 use Rattle.controller.specs.declared.Controller.{Controller}
 use Rattle.controller.specs.declared.Made.the-variants as made
@@ -31,6 +31,7 @@ use Rattle.controller.specs.declared.Accepted.{Accepted}
 use Rattle.controller.specs.declared.Outcome.{Outcome}
 use Rattle.controller.proofs.Usability.{idle-usable}
 use Rattle.controller.proofs.Inputs.{well-formed, facts-acceptable}
+use Rattle.controller.proofs.Alarm.{acts-unrefused}
 use Rattle.controller.proofs.Making.{fresh-facts}
 use Rattle.controller.proofs.Sendable.{Sendable, sendable-room}
 use Rattle.controller.proofs.Sending.{Usable, far-usable, far-channel, sent-sendable, wait-within}
@@ -41,7 +42,7 @@ k1-back r h = (omega arith, omega arith)
 
 -- what is answered once it is known what is accepted and what is sent
 module _ (s : Controller) (far : Accepted) (sent : Request) (now fate : ℕ) (fits : sectionsFit (s .n) ≡ true)
-    (usable : Usable (s .n) far) (channel : far .request .channel ≤ s .n) (able : Sendable (s .n) (s .mask) now sent)
+    (accepts : Usable (s .n) far) (channel : far .request .channel ≤ s .n) (able : Sendable (s .n) (s .mask) now sent)
     (within : now ≤ s .w) where
   room : (sent .code ≤ 15) × (sent .channel ≤ 14)
   room = sendable-room (s .n) (s .mask) now sent fits able
@@ -58,7 +59,7 @@ module _ (s : Controller) (far : Accepted) (sent : Request) (now fate : ℕ) (fi
       let back = k1-back sent (room .1) in
       facts-acceptable (answering s far sent now fate .controller)
       record {
-        usable = usable .usable;
+        pair-usable = accepts .pair-usable;
         carried = rw (back .0, back .1) (able .carried);
         coded = rw (back .0, back .1) (able .coded);
         waits = rw (back .0) wait-fits;
@@ -92,7 +93,7 @@ pub record Kept (s : Controller) (o : Outcome) : Type 0 where
   pub accepts : acceptable (o .controller) ≡ true
 
 pub record Sent (s : Controller) (o : Outcome) : Type 0 where
-  pub usable : mark (s .n) (o .k1) (o .k2) ≡ 0
+  pub pair-usable : usable (s .n) (o .k1) (o .k2) ≡ true
   pub line : lineBits (o .k2) ≡ 0b000
   pub recorded : o .k1 ≡ o .controller .sent
 
@@ -102,16 +103,23 @@ module _ (s : Controller) (k1 k2 : ℕ) (conditions : List ℕ) (command c : ℕ
   unfolding step
   step-refused h = rw (ne-eqb (refusal s conditions command c) 0 h)
 
-  pub not-refused : step s k1 k2 conditions command c .refusal ≡ 0
-      → (refusal s conditions command c ≡ 0) × (step s k1 k2 conditions command c ≡ moved s k1 k2 conditions command c)
+  -- what it acts on meets no refusal either
+  pub not-refused : step s k1 k2 conditions command c .refusal ≡ 0 →
+      let acts = actsOn (alarm (s .n) k1 k2) conditions in
+      (refusal s acts command c ≡ 0) × (step s k1 k2 conditions command c ≡ moved s k1 k2 acts command c)
   unfolding step
   not-refused h = go (eqb (refusal s conditions command c) 0) refl
     where
-      go : (z : Bool) → eqb (refusal s conditions command c) 0 ≡ z
-          → (refusal s conditions command c ≡ 0) × (step s k1 k2 conditions command c ≡ moved s k1 k2 conditions command c)
-      go true e = (eqb-true (refusal s conditions command c) 0 e, rw e)
+      go : (z : Bool) → eqb (refusal s conditions command c) 0 ≡ z →
+          let acts = actsOn (alarm (s .n) k1 k2) conditions in
+          (refusal s acts command c ≡ 0) × (step s k1 k2 conditions command c ≡ moved s k1 k2 acts command c)
+      go true e = (
+        acts-unrefused s command c (alarm (s .n) k1 k2) conditions (eqb-true (refusal s conditions command c) 0 e),
+        rw e,
+      )
       go false e = absurd (eqb-false (refusal s conditions command c) 0 e (rw e at h))
 
+module _ (s : Controller) (k1 k2 : ℕ) (conditions : List ℕ) (command c : ℕ) where
   moved-keeps : refusal s conditions command c ≡ 0
       → Kept s (moved s k1 k2 conditions command c) × Sent s (moved s k1 k2 conditions command c)
   unfolding moved
@@ -127,24 +135,27 @@ module _ (s : Controller) (k1 k2 : ℕ) (conditions : List ℕ) (command c : ℕ
       let near = localRequest (s .mask) last (protection conditions) (drop 1 conditions) stands (waiting now last) in
       let sent = decided (far .request) near in
       let fated = fate command (replacesHeld hold new) (same sent new) in
-      let usable = far-usable s conditions command c well failed k1 k2 in
+      let far-fits = far-usable s conditions command c well failed k1 k2 in
       let channel = far-channel s conditions command c well failed k1 k2 in
       let able = sent-sendable s conditions command c well failed k1 k2 in
       let within = wait-within s conditions command c well in
-      let accepts = answer-acceptable s far sent now fated (well .fits) usable channel able within in
-      let pair = answer-usable s far sent now fated (well .fits) usable channel able within in
-      let line = answer-line s far sent now fated (well .fits) usable channel able within in (
+      let accepts = answer-acceptable s far sent now fated (well .fits) far-fits channel able within in
+      let pair = answer-usable s far sent now fated (well .fits) far-fits channel able within in
+      let line = answer-line s far sent now fated (well .fits) far-fits channel able within in (
         record { sections = refl; priorities = refl; wait = refl; accepts = accepts },
         record {
-          usable = mark-none (s .n) (answering s far sent now fated .k1) (answering s far sent now fated .k2) pair;
+          pair-usable = parts-usable (s .n) (answering s far sent now fated .k1) (answering s far sent now fated .k2) pair;
           line = line;
           recorded = refl;
         },
       )
 
+module _ (s : Controller) (k1 k2 : ℕ) (conditions : List ℕ) (command c : ℕ) where
   pub step-keeps : step s k1 k2 conditions command c .refusal ≡ 0
       → Kept s (step s k1 k2 conditions command c) × Sent s (step s k1 k2 conditions command c)
-  step-keeps h = let goes = not-refused h in rw (goes .1) (moved-keeps (goes .0))
+  step-keeps h =
+      let goes = not-refused s k1 k2 conditions command c h in
+      rw (goes .1) (moved-keeps s k1 k2 (actsOn (alarm (s .n) k1 k2) conditions) command c (goes .0))
 
   -- a step is not refused, if its settings, its record and its inputs meet none of the refusals
   pub step-unrefused : sectionsFit (s .n) ≡ true → maskFits (s .n) (s .mask) ≡ true → acceptable s ≡ true
@@ -167,7 +178,7 @@ unfolding carries
 fresh-acceptable n mask w fits =
     facts-acceptable (fresh n mask w)
     record {
-      usable = eqb-true (mark n idleK1 idleK2) 0 (idle-usable n idleK1 fits);
+      pair-usable = idle-usable n idleK1 fits;
       carried = refl;
       coded = refl;
       waits = refl;

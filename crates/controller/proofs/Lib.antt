@@ -6,6 +6,7 @@ mod Nest
 pub mod Usability
 pub mod Conditions
 pub mod Inputs
+pub mod Alarm
 pub mod Sendable
 pub mod Sending
 pub mod Making

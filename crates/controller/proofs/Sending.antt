@@ -8,9 +8,9 @@ use lib.Dec.{ltb, leb, eqb}
 use lib.ListN.{length, drop}
 use borrow.Author.Tests.{ltb-true, leb-true, eqb-true, eqb-false, lt-leb}
 use Rattle.pair.specs.Request.{requests, carries, rankOf}
-use Rattle.pair.specs.Marks.{codeOf, channelOf, mark}
+use Rattle.pair.specs.Marks.{codeOf, channelOf, usable}
 use Rattle.pair.proofs.Rows.{heldIn, carries-0, carried-within}
-use Rattle.pair.proofs.Coding.{unmarked}
+use Rattle.pair.proofs.Coding.{usable-parts}
 use Rattle.request.specs.Wait.{waitNow}
 use Rattle.request.specs.Order.{byRank, byTurn}
 use Rattle.request.specs.declared.Request.{Request}
@@ -29,7 +29,7 @@ use Rattle.controller.proofs.Sendable.{wait-sendable, reverse-sendable,
 
 -- the pair that a step has accepted, taken apart
 pub record Usable (n : ℕ) (far : Accepted) : Type 0 where
-  pub usable : mark n (far .k1) (far .k2) ≡ 0
+  pub pair-usable : usable n (far .k1) (far .k2) ≡ true
   pub parts : far ≡ accepted (far .k1) (far .k2) (far .mark)
 
 module _ (s : Controller) (conditions : List ℕ) (command c : ℕ) (given-well : WellFormed s conditions command c) where
@@ -59,23 +59,19 @@ module _ (s : Controller) (conditions : List ℕ) (command c : ℕ) (given-well 
 
   pub far-usable : (failed : Bool) (k1 k2 : ℕ) → Usable (s .n) (accepting s failed k1 k2)
   unfolding accepting carries
-  far-usable true k1 k2 =
-      record {
-        usable = eqb-true (mark (s .n) idleK1 idleK2) 0 (idle-usable (s .n) idleK1 (given-well .fits));
-        parts = refl;
-      }
-  far-usable false k1 k2 = go (eqb (mark (s .n) k1 k2) 0) refl
+  far-usable true k1 k2 = record { pair-usable = idle-usable (s .n) idleK1 (given-well .fits); parts = refl }
+  far-usable false k1 k2 = go (usable (s .n) k1 k2) refl
     where
-      go : (z : Bool) → eqb (mark (s .n) k1 k2) 0 ≡ z → Usable (s .n) (accepting s false k1 k2)
-      go true e = rw e record { usable = eqb-true (mark (s .n) k1 k2) 0 e; parts = refl }
-      go false e = rw e record { usable = well .usable; parts = refl }
+      go : (t : Bool) → usable (s .n) k1 k2 ≡ t → Usable (s .n) (accepting s false k1 k2)
+      go true e = rw e record { pair-usable = e; parts = refl }
+      go false e = rw e record { pair-usable = well .pair-usable; parts = refl }
 
   -- channels of a usable pair
   pub far-channel : (failed : Bool) (k1 k2 : ℕ) → accepting s failed k1 k2 .request .channel ≤ s .n
   far-channel failed k1 k2 =
       let far = accepting s failed k1 k2 in
       let u = far-usable failed k1 k2 in
-      let p = unmarked (s .n) (far .k1) (far .k2) (given-well .fits) (u .usable) in
+      let p = usable-parts (s .n) (far .k1) (far .k2) (given-well .fits) (u .pair-usable) in
       let e : far .request .channel ≡ channelOf (far .k1) = ap (λ (a : Accepted). a .request .channel) (u .parts) in
       rw e (carried-within requests (s .n) (codeOf (far .k1)) (channelOf (far .k1)) (p .carried))
 

@@ -18,7 +18,7 @@ use Rattle.request.proofs.FirstCome.{turn-orders, Turns, turn-cases, turn-again
 use Rattle.controller.specs.Rules.{noRequest, asked, rankOfRequest, isCommand, held, kept, given, replacesHeld}
 use Rattle.controller.specs.Rules.{condition, conditionsFrom, isWait, candidates, localRequest, decided, k1Of}
 use Rattle.controller.specs.Step.{protection, waitOf, moved}
-use Rattle.controller.specs.Run.{Input, stepBy, candidatesIn, acceptedIn}
+use Rattle.controller.specs.Run.{Input, stepBy, conditionsIn, candidatesIn, acceptedIn}
 use Rattle.controller.specs.Asking.{OfKind, asks}
 use Rattle.controller.specs.declared.Controller.{Controller}
 use Rattle.controller.specs.declared.Outcome.{Outcome}
@@ -104,9 +104,9 @@ module _ (s : Controller) (i : Input) (goes : stepBy s i .refusal ≡ 0) where
   abbrev nearBy : Request → Request
   nearBy sent = best (byTurn rankOf sent) noRequest (candidatesIn s i)
 
-  number : length (i .conditions) ≡ s .n + 1
+  number : length (conditionsIn s i) ≡ s .n + 1
   number =
-      well-formed s (i .conditions) (i .command) (i .channel)
+      well-formed s (conditionsIn s i) (i .command) (i .channel)
       (not-refused s (i .k1) (i .k2) (i .conditions) (i .command) (i .channel) goes .0) .number
 
   -- what a step sends, by what it has accepted and by its candidates
@@ -115,24 +115,24 @@ module _ (s : Controller) (i : Input) (goes : stepBy s i .refusal ≡ 0) where
   decides = rw (not-refused s (i .k1) (i .k2) (i .conditions) (i .command) (i .channel) goes .1)
 
   -- from a record that has last sent x, which section c asks for
-  module _ (c : ℕ) (x : Request) (sent : last ≡ x) (asks-again : asks (s .mask) (i .conditions) c ≡ x)
+  module _ (c : ℕ) (x : Request) (sent : last ≡ x) (asks-again : asks (s .mask) (conditionsIn s i) c ≡ x)
       (some : 0 < rankOfRequest x) (above : NoneAbove rankOfRequest (candidatesIn s i) (rankOfRequest x))
-      (other : rankOfRequest (condition (s .mask) 0 (protection (i .conditions))) ≡ rankOfRequest x → ⊥) where
+      (other : rankOfRequest (condition (s .mask) 0 (protection (conditionsIn s i))) ≡ rankOfRequest x → ⊥) where
     near-stays : nearBy last ≡ x
     near-stays =
         ap nearBy sent
         ∙ subst (λ (r : Request). nearBy r ≡ r) is
-        (local-stays (s .mask) (protection (i .conditions)) (drop 1 (i .conditions)) _ _
+        (local-stays (s .mask) (protection (conditionsIn s i)) (drop 1 (conditionsIn s i)) _ _
         (command-kind (replacesHeld (kept (i .command) (held last)) (given (i .command) (i .channel))) (i .command)
         (i .channel) last)
         (wait-kind (waitOf s last (i .command)) last) c (asking-within (s .mask) c all-sections ranked) ranked
         (λ h. other (h ∙ ap rankOfRequest is)) none-above)
       where
         all-sections : List ℕ
-        all-sections = protection (i .conditions) ∷ drop 1 (i .conditions)
+        all-sections = protection (conditionsIn s i) ∷ drop 1 (conditionsIn s i)
 
         is : asks (s .mask) all-sections c ≡ x
-        is = ap (λ (xs : List ℕ). asks (s .mask) xs c) (whole (i .conditions) (omega (arith, number))) ∙ asks-again
+        is = ap (λ (xs : List ℕ). asks (s .mask) xs c) (whole (conditionsIn s i) (omega (arith, number))) ∙ asks-again
 
         ranked : 0 < rankOfRequest (asks (s .mask) all-sections c)
         ranked = rw is some
@@ -152,17 +152,21 @@ module _ (s : Controller) (i j : Input) (c : ℕ) where
   after = stepBy (before .controller) j
 
   abbrev asks-for : Request
-  asks-for = condition (s .mask) c (getD (i .conditions) c 0)
+  asks-for = condition (s .mask) c (getD (conditionsIn s i) c 0)
 
   pub stays : before .refusal ≡ 0 → after .refusal ≡ 0 → 0 < rankOfRequest asks-for → before .k1 ≡ k1Of asks-for
-      → getD (j .conditions) c 0 ≡ getD (i .conditions) c 0
+      → getD (conditionsIn (before .controller) j) c 0 ≡ getD (conditionsIn s i) c 0
       → NoneAbove rankOfRequest (candidatesIn (before .controller) j) (rankOfRequest asks-for)
-      → (rankOfRequest (condition (s .mask) 0 (protection (j .conditions))) ≡ rankOfRequest asks-for → ⊥)
+      → (rankOfRequest (condition (s .mask) 0 (protection (conditionsIn (before .controller) j))) ≡ rankOfRequest asks-for
+      → ⊥)
       → byRank rankOf (acceptedIn (before .controller) j) asks-for ≡ false
       → after .k1 ≡ before .k1
   stays goes goes-on some sends keeps above other loses =
       sent-again (before .controller) j goes-on c asks-for last-sent again some above
-      (λ h. other (ap (λ (m : ℕ). rankOfRequest (condition m 0 (protection (j .conditions)))) (sym mask) ∙ h)) loses
+      (λ h.
+      other
+      (ap (λ (m : ℕ). rankOfRequest (condition m 0 (protection (conditionsIn (before .controller) j)))) (sym mask) ∙ h))
+      loses
       ∙ sym sends
     where
       kept-by : Kept s before × Sent s before
@@ -171,16 +175,16 @@ module _ (s : Controller) (i j : Input) (c : ℕ) where
       mask : before .controller .mask ≡ s .mask
       mask = kept-by .0 .priorities
 
-      well : WellFormed s (i .conditions) (i .command) (i .channel)
+      well : WellFormed s (conditionsIn s i) (i .command) (i .channel)
       well =
-          well-formed s (i .conditions) (i .command) (i .channel)
+          well-formed s (conditionsIn s i) (i .command) (i .channel)
           (not-refused s (i .k1) (i .k2) (i .conditions) (i .command) (i .channel) goes .0)
 
       -- its channel has room in a K1
       room : asks-for .channel ≤ 14
       room =
-          let own = own-channel (s .mask) c (getD (i .conditions) c 0) some in
-          let within = asking-within (s .mask) c (i .conditions) some in
+          let own = own-channel (s .mask) c (getD (conditionsIn s i) c 0) some in
+          let within = asking-within (s .mask) c (conditionsIn s i) some in
           let number = well .number in
           let bounds = section-bounds (s .n) (well .fits) .1 in
           omega arith
@@ -190,5 +194,5 @@ module _ (s : Controller) (i j : Input) (c : ℕ) where
           ap asked (sym (kept-by .1 .recorded) ∙ sends)
           ∙ (let back = k1-back asks-for room in λ i. record { code = back .0 i; channel = back .1 i })
 
-      again : asks (before .controller .mask) (j .conditions) c ≡ asks-for
+      again : asks (before .controller .mask) (conditionsIn (before .controller) j) c ≡ asks-for
       again = rw (mask, keeps)

@@ -1,16 +1,17 @@
 -- The front door: what is proved of the controller, each theorem in full with the line that cites its proof.
 use mathlib.Core.Path.{_≡_, refl}
 use mathlib.Core.Bool.{true, false}
-use mathlib.Core.List.{List}
+use mathlib.Core.List.{List, _∷_}
 use mathlib.Core.Logic.{_↔_, _⊎_}
 use Prim.Native.Nat.{ℕ, _+_, _<_, _≤_}
+use lib.Dec.{leb}
 use lib.ListN.{getD}
 use Rattle.basics.specs.First.{appliesAt, FirstAt}
 use Rattle.basics.proofs.First.{first-exact, none-exact}
 use Rattle.basics.proofs.One.{OneAnswer, one-value, one-case}
 use Rattle.basics.proofs.Table.{every}
 use Rattle.pair.specs.Request.{listed, carries, rankIn, rankOf}
-use Rattle.pair.specs.Marks.{lineBits, mark}
+use Rattle.pair.specs.Marks.{lineBits, finding, usable, alarm, mark}
 use Rattle.request.specs.Order.{byRank, byTurn, best, OneOf}
 use Rattle.request.specs.declared.Request.{Request}
 use Rattle.controller.specs.Settings.{makingCase, making}
@@ -18,13 +19,14 @@ use Rattle.controller.specs.Rules.{reverse, noRequest, asked, rankOfRequ
 use Rattle.controller.specs.Rules.{decided, k1Of}
 use Rattle.controller.specs.Refusals.{acceptable, conditionsFit, stepFaults, refusal}
 use Rattle.controller.specs.Step.{protection, refusedStep, moved, step}
-use Rattle.controller.specs.Run.{Input, inputFits, stepBy, candidatesIn, acceptedIn, notRefused, run}
+use Rattle.controller.specs.Run.{Input, inputFits, stepBy, conditionsIn, candidatesIn, acceptedIn, notRefused, run}
 use Rattle.controller.specs.Sequences.{isRight, sequences}
 use Rattle.controller.specs.declared.Controller.{Controller}
 use Rattle.controller.specs.declared.Made.the-variants as made
 use Rattle.controller.proofs.Candidates.{reverse-loses, none-loses, ends-lower, ends-ours}
 use Rattle.controller.proofs.Candidates.{local-one, local-above, local-only, local-single}
 use Rattle.controller.proofs.Inputs.{faults-counted}
+use Rattle.controller.proofs.Alarm.{alarm-step}
 use Rattle.controller.proofs.Keeping.{step-refused, step-keeps, made-acceptable, made-run-unrefused}
 use Rattle.controller.proofs.Staying.{decides, stays}
 use Rattle.controller.proofs.Controller.fresh.Kinds as fresh-kinds
@@ -111,6 +113,13 @@ refused-right : (s : Controller) (k1 k2 : ℕ) (conditions : List ℕ) (command 
     → step s k1 k2 conditions command c ≡ refusedStep (refusal s conditions command c) s
 refused-right = step-refused
 
+-- Line bits 111 (02, c): a step that receives an alarm is the step with section 0 failed and any pair received, refused or
+-- not, whichever of the three conditions section 0 was said to have.
+alarm-right : (s : Controller) (command c k1 k2 j1 j2 x : ℕ) (working : List ℕ)
+    → alarm (s .n) k1 k2 ≡ true → leb x 2 ≡ true
+    → step s k1 k2 (x ∷ working) command c ≡ step s j1 j2 (2 ∷ working) command c
+alarm-right = alarm-step
+
 -- A fresh record is acceptable: it meets none of refusal 3.
 fresh-accepted : (n mask w : ℕ) (s : Controller) → makingCase (making n mask w) ≡ made.Fresh s → acceptable s ≡ true
 fresh-accepted = made-acceptable
@@ -130,9 +139,9 @@ step-kept s k1 k2 conditions command c h =
 sent-right : (s : Controller) (k1 k2 : ℕ) (conditions : List ℕ) (command c : ℕ) →
     let o = step s k1 k2 conditions command c in
     o .refusal ≡ 0
-    → (mark (s .n) (o .k1) (o .k2) ≡ 0) × (lineBits (o .k2) ≡ 0b000) × (o .k1 ≡ o .controller .sent)
+    → (usable (s .n) (o .k1) (o .k2) ≡ true) × (lineBits (o .k2) ≡ 0b000) × (o .k1 ≡ o .controller .sent)
 sent-right s k1 k2 conditions command c h =
-    let k = step-keeps s k1 k2 conditions command c h .1 in (k .usable, k .line, k .recorded)
+    let k = step-keeps s k1 k2 conditions command c h .1 in (k .pair-usable, k .line, k .recorded)
 
 -- So no step of a run is refused, from a fresh record and with inputs that meet none of refusals 4 to 7.
 run-complete : (n mask w : ℕ) (s : Controller) → makingCase (making n mask w) ≡ made.Fresh s
@@ -179,12 +188,12 @@ sends-right = decides
 stays-right : (s : Controller) (i j : Input) (c : ℕ) →
     let o = stepBy s i in
     let next = stepBy (o .controller) j in
-    let x = condition (s .mask) c (getD (i .conditions) c 0) in
+    let x = condition (s .mask) c (getD (conditionsIn s i) c 0) in
     o .refusal ≡ 0 → next .refusal ≡ 0
     → 0 < rankOfRequest x → o .k1 ≡ k1Of x
-    → getD (j .conditions) c 0 ≡ getD (i .conditions) c 0
+    → getD (conditionsIn (o .controller) j) c 0 ≡ getD (conditionsIn s i) c 0
     → ((y : Request) → OneOf y (candidatesIn (o .controller) j) → rankOfRequest y ≤ rankOfRequest x)
-    → (rankOfRequest (condition (s .mask) 0 (protection (j .conditions))) ≡ rankOfRequest x → ⊥)
+    → (rankOfRequest (condition (s .mask) 0 (protection (conditionsIn (o .controller) j))) ≡ rankOfRequest x → ⊥)
     → byRank rankOf (acceptedIn (o .controller) j) x ≡ false
     → next .k1 ≡ o .k1
 stays-right = stays
@@ -205,5 +214,5 @@ none-right = none-loses
 
 -- P1 to P13: every value that the paper gives.
 sequences-right : every isRight sequences ≡ true
-unfolding step moved refusal conditionsFit acceptable localRequest accepting best mark rankOf rankIn carries listed
+unfolding step moved refusal conditionsFit acceptable localRequest accepting best finding usable alarm mark rankOf rankIn carries listed
 sequences-right = refl

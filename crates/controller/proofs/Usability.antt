@@ -10,12 +10,12 @@ use denote.Enum.Declared.{tagOf}
 use types.Run.{OneOf}
 use borrow.Author.Tests.{leb-true, eqb-true, eq-eqb}
 use Rattle.pair.specs.Request.{requests, carries}
-use Rattle.pair.specs.Marks.{codeOf, channelOf, mark}
-use Rattle.pair.specs.Coder.{sectionsFit, decodingCase, decoding}
+use Rattle.pair.specs.Marks.{codeOf, channelOf, nothing, finding, usable}
+use Rattle.pair.specs.Coder.{sectionsFit, decodingCase, pairOf, decoding}
 use Rattle.pair.specs.declared.Decoded.{Decoded}
 use Rattle.pair.specs.declared.Decoded.the-variants as decoded
 use Rattle.pair.proofs.Decoded.{the-type}
-use Rattle.pair.proofs.Coding.{pairOf, fit-decoding, unmarked, mark-none}
+use Rattle.pair.proofs.Coding.{nothing-found, fit-decoding, usable-parts, parts-usable}
 use Rattle.controller.specs.Settings.{idleK2}
 
 pub section-bounds : (n : ℕ) → sectionsFit n ≡ true → (1 ≤ n) × (n ≤ 14)
@@ -23,33 +23,30 @@ section-bounds n h =
     let both = and-eq-true-iff (leb 1 n) (leb n 14) .0 h in
     (leb-true 1 n (both .0), leb-true n 14 (both .1))
 
--- an answer that is not the usable case comes of a pair with a mark
-pub other-marked : (n k1 k2 : ℕ) (d : Decoded) → sectionsFit n ≡ true → d ≡ decodingCase (decoding n k1 k2)
-    → OneOf (1 ∷ 2 ∷ []) (tagOf the-type d) → eqb (mark n k1 k2) 0 ≡ false
-other-marked n k1 k2 d fits e other = go (eqb (mark n k1 k2) 0) refl
+-- an answer that is not the usable case comes of a pair that is not usable
+pub other-unusable : (n k1 k2 : ℕ) (d : Decoded) → sectionsFit n ≡ true → d ≡ decodingCase (decoding n k1 k2)
+    → OneOf (1 ∷ 2 ∷ 3 ∷ []) (tagOf the-type d) → usable n k1 k2 ≡ false
+other-unusable n k1 k2 d fits e other = go (usable n k1 k2) refl
   where
-    tag : OneOf (1 ∷ 2 ∷ []) 0 → ⊥
+    tag : OneOf (1 ∷ 2 ∷ 3 ∷ []) 0 → ⊥
     tag (inl h) = omega arith
-    tag (inr h) = omega arith
+    tag (inr (inl h)) = omega arith
+    tag (inr (inr h)) = omega arith
 
-    go : (z : Bool) → eqb (mark n k1 k2) 0 ≡ z → eqb (mark n k1 k2) 0 ≡ false
-    go true z =
-        let usable : d ≡ decoded.Usable (pairOf k1 k2) = e ∙ fit-decoding n k1 k2 fits refl ∙ rw z in
-        absurd (tag (subst (λ (x : Decoded). OneOf (1 ∷ 2 ∷ []) (tagOf the-type x)) usable other))
-    go false z = z
+    go : (t : Bool) → usable n k1 k2 ≡ t → usable n k1 k2 ≡ false
+    go true t =
+        let given : d ≡ decoded.Usable (pairOf k1 k2) = e ∙ fit-decoding n k1 k2 fits (nothing-found n k1 k2 t) in
+        absurd (tag (subst (λ (x : Decoded). OneOf (1 ∷ 2 ∷ 3 ∷ []) (tagOf the-type x)) given other))
+    go false t = t
 
 -- with the idle K2, a pair is usable where its K1 is in the table
 pub idle-usable : (n k1 : ℕ) → sectionsFit n ≡ true
-    → eqb (mark n k1 idleK2) 0 ≡ carries requests n (codeOf k1) (channelOf k1)
-idle-usable n k1 fits = go (carries requests n (codeOf k1) (channelOf k1)) (eqb (mark n k1 idleK2) 0) refl refl
+    → usable n k1 idleK2 ≡ carries requests n (codeOf k1) (channelOf k1)
+idle-usable n k1 fits = go (carries requests n (codeOf k1) (channelOf k1)) (usable n k1 idleK2) refl refl
   where
-    go : (t z : Bool) → carries requests n (codeOf k1) (channelOf k1) ≡ t → eqb (mark n k1 idleK2) 0 ≡ z
-        → eqb (mark n k1 idleK2) 0 ≡ carries requests n (codeOf k1) (channelOf k1)
+    go : (t z : Bool) → carries requests n (codeOf k1) (channelOf k1) ≡ t → usable n k1 idleK2 ≡ z
+        → usable n k1 idleK2 ≡ carries requests n (codeOf k1) (channelOf k1)
     go true z e f =
-        eq-eqb (mark n k1 idleK2) 0
-        (mark-none n k1 idleK2 record { fits = fits; one = refl; line = refl; carried = e; bridged = leb·zero n })
-        ∙ sym e
-    go false true e f =
-        let u = unmarked n k1 idleK2 fits (eqb-true (mark n k1 idleK2) 0 f) in
-        absurd (false≢true (sym e ∙ u .carried))
+        parts-usable n k1 idleK2 record { fits = fits; one = refl; line = refl; carried = e; bridged = leb·zero n } ∙ sym e
+    go false true e f = absurd (false≢true (sym e ∙ usable-parts n k1 idleK2 fits f .carried))
     go false false e f = f ∙ sym e

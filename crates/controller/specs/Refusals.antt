@@ -7,7 +7,7 @@ use lib.ListN.{length}
 use Rattle.basics.specs.Choice.{if_then_else_}
 use Rattle.basics.specs.First.{Check, _when_, firstOf}
 use Rattle.pair.specs.Request.{failHighCode, failLowCode, degradeHighCode, degradeLowCode, requests, carries}
-use Rattle.pair.specs.Marks.{codeOf, channelOf, mark}
+use Rattle.pair.specs.Marks.{codeOf, channelOf, usable}
 use Rattle.controller.specs.Settings.{high, settingsFaults}
 use Rattle.controller.specs.Rules.{isWait}
 use Rattle.controller.specs.declared.Controller.{Controller}
@@ -29,7 +29,7 @@ waitFits code w left = if isWait code then leb 1 left && leb left w else eqb lef
 -- the accepted pair is usable, the K1 last sent is in the table for n and coded by the mask, and the wait fits it
 unfoldable pub acceptable : Controller → Bool
 acceptable s =
-    eqb (mark (s .n) (s .k1) (s .k2)) 0
+    usable (s .n) (s .k1) (s .k2)
     && carries requests (s .n) (codeOf (s .sent)) (channelOf (s .sent))
     && not (againstMask (s .mask) (codeOf (s .sent)) (channelOf (s .sent)))
     && waitFits (codeOf (s .sent)) (s .w) (s .left)

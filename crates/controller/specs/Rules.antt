@@ -6,7 +6,7 @@ use lib.Dec.{ltb, leb, eqb}
 use Rattle.basics.specs.Choice.{if_then_else_}
 use Rattle.pair.specs.Request.{lockoutCode, forcedCode, failHighCode, failLowCode, degradeHighCode, degradeLowCode}
 use Rattle.pair.specs.Request.{manualCode, waitCode, reverseCode, nothingCode, rankOf}
-use Rattle.pair.specs.Marks.{codeOf, channelOf, bridgedOf, mark}
+use Rattle.pair.specs.Marks.{codeOf, channelOf, bridgedOf, usable, mark}
 use Rattle.request.specs.Order.{byRank, byTurn, best}
 use Rattle.request.specs.Command.{replaces}
 use Rattle.request.specs.declared.Request.{Request}
@@ -53,7 +53,7 @@ accepted k1 k2 m = record { k1 = k1; k2 = k2; request = asked k1; bridged = brid
 unfoldable pub accepting : Controller → Bool → ℕ → ℕ → Accepted
 accepting s failed k1 k2 =
     if failed then accepted idleK1 idleK2 0
-    else if eqb (mark (s .n) k1 k2) 0 then accepted k1 k2 0
+    else if usable (s .n) k1 k2 then accepted k1 k2 0
     else accepted (s .k1) (s .k2) (mark (s .n) k1 k2)
 
 -- 2. Command. LO, FS and MS are commands; the one that is held is read off the K1 last sent.

@@ -4,10 +4,11 @@ use mathlib.Core.List.{List, [], _∷_}
 use Prim.Native.Nat.{ℕ, _+_}
 use lib.Dec.{leb, eqb}
 use lib.ListN.{length, drop}
+use Rattle.pair.specs.Marks.{alarm}
 use Rattle.request.specs.declared.Request.{Request}
 use Rattle.controller.specs.Rules.{asked, accepting, held, kept, given, replacesHeld, inForce, waiting, candidates}
 use Rattle.controller.specs.Refusals.{conditionsFit, channelFits}
-use Rattle.controller.specs.Step.{protection, waitOf, step}
+use Rattle.controller.specs.Step.{protection, waitOf, actsOn, step}
 use Rattle.controller.specs.declared.Controller.{Controller}
 use Rattle.controller.specs.declared.Outcome.{Outcome}
 
@@ -30,17 +31,21 @@ inputFits n i =
 abbrev pub stepBy : Controller → Input → Outcome
 stepBy s i = step s (i .k1) (i .k2) (i .conditions) (i .command) (i .channel)
 
--- the candidates of the step, and the request of the pair that it has accepted (rules 3 and 1)
+-- the conditions that the step acts on, its candidates, and the request of the pair that it has accepted (02, c; rules 3
+-- and 1)
+abbrev pub conditionsIn : Controller → Input → List ℕ
+conditionsIn s i = actsOn (alarm (s .n) (i .k1) (i .k2)) (i .conditions)
+
 abbrev pub candidatesIn : Controller → Input → List Request
 candidatesIn s i =
     let last = asked (s .sent) in
     let hold = kept (i .command) (held last) in
     let new = given (i .command) (i .channel) in
-    candidates (s .mask) (protection (i .conditions)) (drop 1 (i .conditions))
+    candidates (s .mask) (protection (conditionsIn s i)) (drop 1 (conditionsIn s i))
     (inForce (replacesHeld hold new) hold new) (waiting (waitOf s last (i .command)) last)
 
 abbrev pub acceptedIn : Controller → Input → Request
-acceptedIn s i = accepting s (eqb (protection (i .conditions)) 2) (i .k1) (i .k2) .request
+acceptedIn s i = accepting s (eqb (protection (conditionsIn s i)) 2) (i .k1) (i .k2) .request
 
 abbrev pub notRefused : Outcome → Bool
 notRefused o = eqb (o .refusal) 0

@@ -1,9 +1,11 @@
--- One step (01, 'One step'): the refusals, then the seven rules.
-use mathlib.Core.List.{List}
+-- One step (01, 'One step'; 02, c): the refusals, then the seven rules.
+use mathlib.Core.Bool.{Bool}
+use mathlib.Core.List.{List, _∷_}
 use Prim.Native.Nat.{ℕ}
 use lib.Dec.{eqb}
 use lib.ListN.{getD, drop}
 use Rattle.basics.specs.Choice.{if_then_else_}
+use Rattle.pair.specs.Marks.{alarm}
 use Rattle.request.specs.Order.{same}
 use Rattle.request.specs.Command.{fate}
 use Rattle.request.specs.Wait.{waitNow}
@@ -67,7 +69,12 @@ moved s k1 k2 conditions command c =
     let sent = decided (far .request) near in
     answering s far sent now (fate command replaced (same sent new))
 
+-- where the received pair is an alarm, as if section 0 had failed, whatever its condition was said to be (02, c)
+abbrev pub actsOn : Bool → List ℕ → List ℕ
+actsOn alarmed conditions = if alarmed then 2 ∷ drop 1 conditions else conditions
+
 unfoldable pub step : Controller → ℕ → ℕ → List ℕ → ℕ → ℕ → Outcome
 step s k1 k2 conditions command c =
-    if eqb (refusal s conditions command c) 0 then moved s k1 k2 conditions command c
+    if eqb (refusal s conditions command c) 0 then
+    moved s k1 k2 (actsOn (alarm (s .n) k1 k2) conditions) command c
     else refusedStep (refusal s conditions command c) s

@@ -17,6 +17,7 @@ pub(crate) fn mark_in(d: Decoded) -> u8
     match d {
         Decoded::Usable(_) => 0,
         Decoded::Marked(m) => m,
+        Decoded::Alarm => 0,
         Decoded::Refused(_) => 0,
     }
 }

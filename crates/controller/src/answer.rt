@@ -12,9 +12,11 @@ use crate::command::kept;
 use crate::command::replaces_held;
 use crate::local::decided;
 use crate::local::local_request;
+use crate::section::protection;
 use crate::wait::left_after;
 use crate::wait::wait_of;
 use crate::wait::waiting;
+use pair::mark::alarm;
 use request::Request;
 use request::bridge;
 use request::fate;
@@ -22,7 +24,8 @@ use request::selector;
 ghost use Prim.Native.Nat.{_≤_};
 ghost use Rattle.controller.specs.Refusals.{refusal};
 ghost use Rattle.controller.specs.Rules.{keepsBridge};
-ghost use Rattle.controller.specs.Step.{refusedStep, answering, moved};
+ghost use Rattle.controller.specs.Step.{refusedStep, answering, moved, actsOn};
+ghost use Rattle.pair.specs.Marks.{alarm};
 ghost use Rattle.request.specs.Order.{same};
 ghost use mathlib.Core.Path.{_≡_};
 
@@ -87,9 +90,10 @@ fn answering(s: Controller, far: Accepted, sent: Request, wait: u16, fate: u8) -
 
 pub(crate) fn moved(s: Controller, k1: u8, k2: u8, conditions: &[u8], command: u8, c: u8) -> Outcome
     requires { ⌜ refusal s (now conditions) command c ≡ 0 ⌝ }
-    ensures { λ r. ⌜ r ≡ moved s k1 k2 (now (conditions .entry)) command c ⌝ }
+    ensures { λ r. ⌜ r ≡ moved s k1 k2 (actsOn (alarm (s .n) k1 k2) (now (conditions .entry))) command c ⌝ }
 {
-    let protect = conditions[0];
+    let handed = conditions[0];
+    let protect = protection(alarm(k2), handed);
     let k1_sent = s.sent;
     let last = asked(k1_sent);
     let far = accepting(s, protect == 2, k1, k2);

@@ -7,6 +7,8 @@ use crate::codes::NO_REQUEST;
 use request::Request;
 ghost use Rattle.controller.specs.Rules.{failCode, degradeCode, condition};
 ghost use Rattle.controller.specs.Settings.{high};
+ghost use Rattle.controller.specs.Step.{protection, actsOn};
+ghost use mathlib.Core.List.{[], _∷_};
 ghost use mathlib.Core.Path.{_≡_};
 
 // Section 0's bit stands below the 16 of the mask, so no channel above 16 has a bit.
@@ -49,4 +51,11 @@ pub fn condition(mask: u16, c: u8, x: u8) -> Request
         };
     }
     NO_REQUEST
+}
+
+// The condition of section 0 that a step acts on: failed, where an alarm is received (02, c).
+pub(crate) fn protection(alarmed: bool, handed: u8) -> u8
+    ensures { λ r. ⌜ r ≡ protection (actsOn alarmed (handed ∷ [])) ⌝ }
+{
+    if alarmed { 2 } else { handed }
 }

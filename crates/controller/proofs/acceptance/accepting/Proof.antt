@@ -1,8 +1,8 @@
--- `accepting` meets its contract: the decoder's answer is the usable record, or comes of a pair with a mark.
+-- `accepting` meets its contract: the decoder's answer is the usable record, or comes of a pair that is not usable.
 use mathlib.Core.Path.{sym, _∙_}
-use Rattle.pair.proofs.Coding.{fit-mark, usable-facts, mark-none}
+use Rattle.pair.proofs.Coding.{fit-mark, usable-facts, parts-usable}
 use Rattle.controller.specs.Rules.{accepting}
-use Rattle.controller.proofs.Usability.{other-marked}
+use Rattle.controller.proofs.Usability.{other-unusable}
 use borrow.Author.Needs.{needs}
 use Rattle.controller.proofs.acceptance.accepting.Statement.{statement}
 use Rattle.controller.proofs.acceptance.accepting.Tie as tie
@@ -38,7 +38,7 @@ returns-2 c =
       d .ensures .numbers,
       fit-mark (a .s .n) (a .k1) (a .k2) fits,
       c .before .before .before .before .if1 .left,
-      other-marked (a .s .n) (a .k1) (a .k2) (d .result) fits (d .ensures .decided) (c .before .before .match .keys2),
+      other-unusable (a .s .n) (a .k1) (a .k2) (d .result) fits (d .ensures .decided) (c .before .before .match .keys2),
     )
 
 returns-3 : tie.Need-returns-3
@@ -51,7 +51,7 @@ returns-3 c =
     rw (
       facts .1,
       c .before .before .before .before .if1 .left,
-      mark-none (a .s .n) (a .k1) (a .k2) (facts .0),
+      parts-usable (a .s .n) (a .k1) (a .k2) (facts .0),
     )
 
 pub accepting-spec : {M : Type 1} → statement M

@@ -1,15 +1,20 @@
 -- `moved` meets its contract: each rule's function is handed what the rules before it gave.
-use mathlib.Core.Path.{_≡_}
+use mathlib.Core.Path.{_≡_, sym, ap, _∙_}
+use mathlib.Core.List.{List}
+use Prim.Native.Nat.{ℕ}
 use native.Mathlib.Omega.{arith}
 use lib.Dec.{eqb}
 use lib.ListN.{drop}
+use Rattle.pair.specs.Marks.{alarm}
+use Rattle.pair.proofs.Coding.{alarm-test}
 use Rattle.request.specs.declared.Request.{Request}
 use Rattle.controller.specs.Rules.{asked, accepting, held, kept, given, replacesHeld, inForce, waiting, localRequest}
 use Rattle.controller.specs.Rules.{decided}
-use Rattle.controller.specs.Step.{protection, waitOf, moved}
+use Rattle.controller.specs.Step.{protection, waitOf, moved, actsOn}
 use Rattle.controller.proofs.Apart.{command-kind, wait-kind}
 use Rattle.controller.proofs.Usability.{section-bounds}
 use Rattle.controller.proofs.Inputs.{WellFormed, well-formed}
+use Rattle.controller.proofs.Alarm.{acts-protection, acts-working, acts-unrefused}
 use Rattle.controller.proofs.Sendable.{sendable-room}
 use Rattle.controller.proofs.Sending.{sent-sendable, far-channel}
 use borrow.Author.Needs.{needs}
@@ -19,21 +24,41 @@ use Rattle.controller.proofs.answer.moved.Tie as tie
 well : (c : tie.Start) → WellFormed (c .args .s) (c .args .conditions .now) (c .args .command) (c .args .c)
 well c = well-formed (c .args .s) (c .args .conditions .now) (c .args .command) (c .args .c) (c .pre)
 
--- what is sent, as the rules have it
-abbrev sentOf : tie.After-decided → Request
-sentOf c =
-    let a = c .before .before .before .before .before .before .before .before .before .before .before .before .before .before .args in
-    let protect = protection (a .conditions .now) in
+-- what the step acts on
+abbrev actsOf : tie.Start → List ℕ
+actsOf c = actsOn (alarm (c .args .s .n) (c .args .k1) (c .args .k2)) (c .args .conditions .now)
+
+acts-well : (c : tie.Start) → WellFormed (c .args .s) (actsOf c) (c .args .command) (c .args .c)
+acts-well c =
+    let a = c .args in
+    well-formed (a .s) (actsOf c) (a .command) (a .c)
+    (acts-unrefused (a .s) (a .command) (a .c) (alarm (a .s .n) (a .k1) (a .k2)) (a .conditions .now) (c .pre))
+
+protects : (c : tie.After-protection) → c .protection .result ≡ protection (actsOf (c .before .before .before .before))
+protects c =
+    let a = c .before .before .before .before .args in
+    rw (c .protection .ensures, c .before .alarm .ensures, ← alarm-test (a .s .n) (a .k1) (a .k2))
+    (acts-protection (alarm (a .s .n) (a .k1) (a .k2)) (a .conditions .now))
+
+-- what is sent, as the rules have it, by the conditions of section 0 and of the working sections
+abbrev sentBy : tie.After-decided → ℕ → List ℕ → Request
+sentBy c protect working =
+    let a = c .before .before .before .before .before .before .before .before .before .before .before .before .before .before .before .before .args in
     let last = asked (a .s .sent) in
     let hold = kept (a .command) (held last) in
     let new = given (a .command) (a .c) in
     let wait = waiting (waitOf (a .s) last (a .command)) last in
     decided (accepting (a .s) (eqb protect 2) (a .k1) (a .k2) .request)
-    (localRequest (a .s .mask) last protect (drop 1 (a .conditions .now)) (inForce (replacesHeld hold new) hold new) wait)
+    (localRequest (a .s .mask) last protect working (inForce (replacesHeld hold new) hold new) wait)
+
+abbrev sentOf : tie.After-decided → Request
+sentOf c =
+    let acts = actsOf (c .before .before .before .before .before .before .before .before .before .before .before .before .before .before .before .before) in
+    sentBy c (protection acts) (drop 1 acts)
 
 -- whether the new command has replaced the held one
 weighed : (c : tie.After-in-force) →
-    let a = c .before .before .before .before .before .before .before .before .before .args in
+    let a = c .before .before .before .before .before .before .before .before .before .before .before .args in
     c .before .replaces-held .result ≡ replacesHeld (kept (a .command) (held (asked (a .s .sent)))) (given (a .command) (a .c))
 weighed c =
     rw (
@@ -48,6 +73,9 @@ sent-is : (c : tie.After-decided) → c .decided .result ≡ sentOf c
 sent-is c =
     let near = c .before .before in
     let stood = near .before .before .before in
+    let seen = stood .before .before .before .before .before .before .before in
+    let a = seen .before .before .before .before .args in
+    let by-parts : c .decided .result ≡ sentBy c (seen .protection .result) (drop 1 (a .conditions .now)) =
     rw (
       c .decided .ensures,
       near .local-request .ensures,
@@ -60,16 +88,26 @@ sent-is c =
       stood .before .before .before .before .held .ensures,
       stood .before .before .before .before .before .accepting .ensures,
       stood .before .before .before .before .before .before .asked .ensures,
-    )
+    ) in
+    by-parts
+    ∙ ap (λ (p : ℕ). sentBy c p (drop 1 (a .conditions .now))) (protects seen)
+    ∙ ap (sentBy c (protection (actsOf (seen .before .before .before .before))))
+    (sym (acts-working (alarm (a .s .n) (a .k1) (a .k2)) (a .conditions .now)))
 
-shared-slice-read-protect : tie.Need-shared-slice-read-protect
-shared-slice-read-protect c = let number = well (c .before .before) .number in omega arith
+shared-slice-read-handed : tie.Need-shared-slice-read-handed
+shared-slice-read-handed c = let number = well (c .before .before) .number in omega arith
+
+alarm-requires : tie.Need-alarm-requires
+alarm-requires c κs = search needs
+
+protection-requires : tie.Need-protection-requires
+protection-requires c κs = search needs
 
 asked-requires : tie.Need-asked-requires
 asked-requires c κs = search needs
 
 accepting-requires : tie.Need-accepting-requires
-accepting-requires c κs = well (c .before .before .before) .fits
+accepting-requires c κs = well (c .before .before .before .before .before) .fits
 
 held-requires : tie.Need-held-requires
 held-requires c κs = search needs
@@ -94,7 +132,7 @@ waiting-requires c κs = search needs
 
 local-request-requires : tie.Need-local-request-requires
 local-request-requires c κs =
-    let start = c .before .before .before .before .before .before .before .before .before .before .before in
+    let start = c .before .before .before .before .before .before .before .before .before .before .before .before .before in
     let a = start .args in
     let number = well start .number in
     let bounds = section-bounds (a .s .n) (well start .fits) in
@@ -122,15 +160,20 @@ fate-requires c κs = search needs
 
 answering-requires : tie.Need-answering-requires
 answering-requires c κs =
-    let start = c .before .before .before .before .before .before .before .before .before .before .before .before .before .before .before .before in
+    let start = c .before .before .before .before .before .before .before .before .before .before .before .before .before .before .before .before .before .before in
     let a = start .args in
-    let failed = eqb (protection (a .conditions .now)) 2 in
-    let able = sent-sendable (a .s) (a .conditions .now) (a .command) (a .c) (well start) failed (a .k1) (a .k2) in
+    let acts = actsOf start in
+    let failed = eqb (protection acts) 2 in
+    let able = sent-sendable (a .s) acts (a .command) (a .c) (acts-well start) failed (a .k1) (a .k2) in
     let now = waitOf (a .s) (asked (a .s .sent)) (a .command) in
     let room = sendable-room (a .s .n) (a .s .mask) now (sentOf (c .before .before)) (well start .fits) able in
-    let far = far-channel (a .s) (a .conditions .now) (a .command) (a .c) (well start) failed (a .k1) (a .k2) in
+    let far = far-channel (a .s) acts (a .command) (a .c) (acts-well start) failed (a .k1) (a .k2) in
     let bounds = section-bounds (a .s .n) (well start .fits) in
-    rw (sent-is (c .before .before), c .before .before .before .before .before .before .before .before .before .before .before .before .accepting .ensures)
+    rw (
+      sent-is (c .before .before),
+      c .before .before .before .before .before .before .before .before .before .before .before .before .accepting .ensures,
+      protects (c .before .before .before .before .before .before .before .before .before .before .before .before .before .before),
+    )
     (room .0, omega arith, omega arith)
 
 returns : tie.Need-returns
@@ -147,13 +190,16 @@ returns c =
       c .before .before .before .before .before .before .before .before .before .before .given .ensures,
       c .before .before .before .before .before .before .before .before .before .before .before .before .before .accepting .ensures,
       c .before .before .before .before .before .before .before .before .before .before .before .before .before .before .asked .ensures,
+      protects (c .before .before .before .before .before .before .before .before .before .before .before .before .before .before .before),
     )
 
 pub moved-spec : {M : Type 1} → statement M
 moved-spec =
     tie.close
     (tie.spec
-    shared-slice-read-protect
+    shared-slice-read-handed
+    alarm-requires
+    protection-requires
     asked-requires
     accepting-requires
     held-requires
