@@ -7,7 +7,7 @@ use native.Mathlib.Nat.{add-zero}
 use native.Mathlib.Omega.{arith}
 use lib.Dec.{ltb, leb, eqb}
 use lib.ListN.{length, drop}
-use borrow.Author.Tests.{leb-true, eqb-true, eqb-false, le-leb, le-ltb, ne-eqb}
+use borrow.Author.Tests.{leb-true, eqb-true, eqb-false, le-leb, le-ltb, eq-eqb, ne-eqb}
 use Rattle.basics.proofs.Table.{every}
 use Rattle.pair.specs.Request.{carries}
 use Rattle.pair.specs.Marks.{codeOf, channelOf, lineBits, usable, alarm}
@@ -103,21 +103,24 @@ module _ (s : Controller) (k1 k2 : ℕ) (conditions : List ℕ) (command c : ℕ
   unfolding step
   step-refused h = rw (ne-eqb (refusal s conditions command c) 0 h)
 
+  pub unrefused : step s k1 k2 conditions command c .refusal ≡ 0 → refusal s conditions command c ≡ 0
+  unfolding step
+  unrefused h = go (eqb (refusal s conditions command c) 0) refl
+    where
+      go : (z : Bool) → eqb (refusal s conditions command c) 0 ≡ z → refusal s conditions command c ≡ 0
+      go true e = eqb-true (refusal s conditions command c) 0 e
+      go false e = absurd (eqb-false (refusal s conditions command c) 0 e (rw e at h))
+
   -- what it acts on meets no refusal either
   pub not-refused : step s k1 k2 conditions command c .refusal ≡ 0 →
       let acts = actsOn (alarm (s .n) k1 k2) conditions in
       (refusal s acts command c ≡ 0) × (step s k1 k2 conditions command c ≡ moved s k1 k2 acts command c)
   unfolding step
-  not-refused h = go (eqb (refusal s conditions command c) 0) refl
-    where
-      go : (z : Bool) → eqb (refusal s conditions command c) 0 ≡ z →
-          let acts = actsOn (alarm (s .n) k1 k2) conditions in
-          (refusal s acts command c ≡ 0) × (step s k1 k2 conditions command c ≡ moved s k1 k2 acts command c)
-      go true e = (
-        acts-unrefused s command c (alarm (s .n) k1 k2) conditions (eqb-true (refusal s conditions command c) 0 e),
-        rw e,
+  not-refused h =
+      let none = unrefused h in (
+        acts-unrefused s command c (alarm (s .n) k1 k2) conditions none,
+        rw (eq-eqb (refusal s conditions command c) 0 none),
       )
-      go false e = absurd (eqb-false (refusal s conditions command c) 0 e (rw e at h))
 
 module _ (s : Controller) (k1 k2 : ℕ) (conditions : List ℕ) (command c : ℕ) where
   moved-keeps : refusal s conditions command c ≡ 0

@@ -8,7 +8,7 @@ use borrow.Author.Tests.{eqb-true}
 use Rattle.basics.specs.First.{firstOf}
 use Rattle.basics.proofs.Table.{every}
 use Rattle.pair.specs.Request.{listed, carries, rankIn, rankOf}
-use Rattle.pair.specs.Marks.{mark}
+use Rattle.pair.specs.Marks.{finding, usable}
 use Rattle.controller.specs.Settings.{fresh}
 use Rattle.explain.specs.Verdict.{Judging, sizeFaults, Right}
 use Rattle.explain.specs.Lines.{Line, _is_, lines, AllRight}
@@ -34,7 +34,7 @@ abbrev gives : Line → Bool
 gives (bytes is j) = eqb (firstOf (sizeFaults (length bytes))) 0 && alike (scanned (fresh 2 0 3) bytes) j
 
 table : every gives lines ≡ true
-unfolding alike next arises unseen answers mark carries listed rankOf rankIn
+unfolding alike next arises unseen answers finding usable carries listed rankOf rankIn
 table = refl
 
 all-right : (some : List Line) → every gives some ≡ true → AllRight some

@@ -6,6 +6,7 @@ mod Commands
 mod Local
 mod Source
 mod OneStep
+mod Alarmed
 mod Reached
 mod Possible
 pub mod Exact

@@ -9,9 +9,9 @@ use lib.ListN.{length}
 use borrow.Author.Tests.{eqb-true, eq-eqb, le-leb}
 use Rattle.basics.specs.Choice.{if_then_else_}
 use Rattle.pair.specs.Request.{requests, carries}
-use Rattle.pair.specs.Marks.{codeOf, channelOf, mark}
+use Rattle.pair.specs.Marks.{codeOf, channelOf, usable, alarm, mark}
 use Rattle.pair.specs.Coder.{sectionsFit}
-use Rattle.pair.proofs.Coding.{unmarked}
+use Rattle.pair.proofs.Coding.{usable-parts}
 use Rattle.request.specs.Bridge.{bridge}
 use Rattle.request.specs.declared.Request.{Request}
 use Rattle.request.proofs.Channels.{bridge-within}
@@ -52,7 +52,8 @@ able-next s cause r a sends =
 k1-whole : (k1 : ℕ) → k1Of (asked k1) ≡ k1
 k1-whole k1 = omega arith
 
-module _ (s : Controller) (r : Row) (able : Able s) where
+-- a row that received no alarm
+module _ (s : Controller) (r : Row) (able : Able s) (quiet : alarm (s .n) (r .k1) (r .k2) ≡ false) where
   abbrev last : Request
   last = asked (s .sent)
 
@@ -102,7 +103,7 @@ module _ (s : Controller) (r : Row) (able : Able s) where
     step-is : (failed : Bool) → eqb (protection (cause .conditions)) 2 ≡ failed → stepped s cause r .refusal ≡ 0
         → Answered failed (stepped s cause r)
     step-is failed e h =
-        let move = not-refused s (r .k1) (r .k2) (cause .conditions) (cause .command) (cause .channel) h .1 in
+        let move = rw quiet at (not-refused s (r .k1) (r .k2) (cause .conditions) (cause .command) (cause .channel) h .1) in
         subst (λ (t : Bool). Answered t (stepped s cause r)) e (subst (Answered (eqb (protection (cause .conditions)) 2)) (sym move) moved-is)
 
   -- the wait of a step without clear
@@ -118,7 +119,7 @@ module _ (s : Controller) (r : Row) (able : Able s) where
       × (u ≡ recordAfter s now0 (farK1 false) (farK2 false) (r .sentK1))))
 
   -- that pair is the received one if it is usable, and else the one before
-  far-parts : (t : Bool) → eqb (mark (s .n) (r .k1) (r .k2)) 0 ≡ t
+  far-parts : (t : Bool) → usable (s .n) (r .k1) (r .k2) ≡ t
       → (farK1 false ≡ acceptedByte t (r .k1) (s .k1))
       × (farK2 false ≡ acceptedByte t (r .k2) (s .k2))
       × (far false ≡ asked (farK1 false))
@@ -128,7 +129,7 @@ module _ (s : Controller) (r : Row) (able : Able s) where
       (λ (b : Bool).
       (farK1 false ≡ acceptedByte b (r .k1) (s .k1))
       × (farK2 false ≡ acceptedByte b (r .k2) (s .k2))
-      × (far false ≡ asked (farK1 false))) e (go (eqb (mark (s .n) (r .k1) (r .k2)) 0))
+      × (far false ≡ asked (farK1 false))) e (go (usable (s .n) (r .k1) (r .k2)))
     where
       go : (t : Bool) →
           let pair = if t then accepted (r .k1) (r .k2) 0 else accepted (s .k1) (s .k2) (mark (s .n) (r .k1) (r .k2)) in
@@ -138,14 +139,14 @@ module _ (s : Controller) (r : Row) (able : Able s) where
       go true = (refl, refl, refl)
       go false = (refl, refl, refl)
 
-  pub far-accepted : (t : Bool) → eqb (mark (s .n) (r .k1) (r .k2)) 0 ≡ t
+  pub far-accepted : (t : Bool) → usable (s .n) (r .k1) (r .k2) ≡ t
       → (farK1 false ≡ acceptedByte t (r .k1) (s .k1)) × (farK2 false ≡ acceptedByte t (r .k2) (s .k2))
   far-accepted t e = let parts = far-parts t e in (parts .0, parts .1)
 
   far-asked : (failed : Bool) → far failed ≡ asked (farK1 failed)
   unfolding accepting
   far-asked true = refl
-  far-asked false = far-parts (eqb (mark (s .n) (r .k1) (r .k2)) 0) refl .2
+  far-asked false = far-parts (usable (s .n) (r .k1) (r .k2)) refl .2
 
   module _ (cause : Cause) (sends : Sends (stepped s cause r) r) where
     abbrev failed : Bool
@@ -157,7 +158,8 @@ module _ (s : Controller) (r : Row) (able : Able s) where
     well : WellFormed s (cause .conditions) (cause .command) (cause .channel)
     well =
         well-formed s (cause .conditions) (cause .command) (cause .channel)
-        (not-refused s (r .k1) (r .k2) (cause .conditions) (cause .command) (cause .channel) (sends .not-refused) .0)
+        (rw quiet at
+        (not-refused s (r .k1) (r .k2) (cause .conditions) (cause .command) (cause .channel) (sends .not-refused) .0))
 
     answered : Answered cause failed (stepped s cause r)
     answered = step-is cause failed refl (sends .not-refused)
@@ -185,14 +187,14 @@ module _ (s : Controller) (r : Row) (able : Able s) where
             ap (leftAfter sent) same ∙ ap (λ (y : Request). leftAfter y now0) sent-is
         go false e = rw e (subst (λ (y : Request). 0 ≡ leftAfter y now0) sent-is (rw e))
 
-    usable : mark (s .n) (r .sentK1) (r .sentK2) ≡ 0
-    usable =
+    sent-usable : usable (s .n) (r .sentK1) (r .sentK2) ≡ true
+    sent-usable =
         let k =
-        step-keeps s (r .k1) (r .k2) (cause .conditions) (cause .command) (cause .channel) (sends .not-refused) .1 .usable in
+        step-keeps s (r .k1) (r .k2) (cause .conditions) (cause .command) (cause .channel) (sends .not-refused) .1 .pair-usable in
         rw (sends .first, sends .second) at k
 
     carried : carries requests (s .n) (x .code) (x .channel) ≡ true
-    carried = unmarked (s .n) (r .sentK1) (r .sentK2) (able .fits) usable .carried
+    carried = usable-parts (s .n) (r .sentK1) (r .sentK2) (able .fits) sent-usable .carried
 
     caused : (t : Bool) → failed ≡ t
         → Caused (s .n) (s .mask) (s .w) (s .left) last t (far t) (held last) (held x) x
@@ -251,43 +253,54 @@ module _ (s : Controller) (r : Row) (able : Able s) where
   OpenBy y = answers y x local && secondFits (r .sentK2) (bridge (y .channel) (x .channel) (keepsBridge x)) ≡ true
 
   -- a row that is sent leaves one of these records
-  pub sends-reached : (cause : Cause) → Sends (stepped s cause r) r → Reached (stepped s cause r .controller)
+  pub failed-reached : (cause : Cause) → Sends (stepped s cause r) r → eqb (protection (cause .conditions)) 2 ≡ true
+      → (carries requests (s .n) (x .code) (x .channel) ≡ true)
+      × (hiddenIn s x (r .sentK2) ≡ true)
+      × (stepped s cause r .controller ≡ recordAfter s now0 idleK1 idleK2 (r .sentK1))
   unfolding accepting
-  sends-reached cause sends =
-      (carried cause sends, go (failed cause sends) refl)
+  failed-reached cause sends e =
+      let carry = carried cause sends in
+      let hidden =
+      one-hidden-step (s .n) (s .mask) (s .w) (s .left) last (held last) (held x) x carry .1 (caused cause sends true e) in
+      let second : secondFits (r .sentK2) 0 ≡ true =
+      rw (bridge-none (x .channel) (keepsBridge x)) at (second-is cause sends true e) in (
+        carry,
+        and-eq-true-iff (unseen (commanded (held last) (held x)) x) (secondFits (r .sentK2) 0) .1 (hidden .possible, second),
+        record-is cause sends true e,
+      )
+
+  open-reached : (cause : Cause) (sends : Sends (stepped s cause r) r) → eqb (protection (cause .conditions)) 2 ≡ false
+      → (opens (farK1 false) x (r .sentK2) local ≡ true)
+      × (stepped s cause r .controller ≡ recordAfter s now0 (farK1 false) (farK2 false) (r .sentK1))
+  open-reached cause sends e =
+      let opened =
+      one-step (s .n) (s .mask) (s .w) (s .left) last (far false) (held last) (held x) x (carried cause sends) .1
+      (caused cause sends false e) in
+      let both =
+      and-eq-true-iff (answers (far false) x local)
+      (secondFits (r .sentK2) (bridge (far false .channel) (x .channel) (keepsBridge x))) .1
+      (opened .possible, second-is cause sends false e) in
+      (subst OpenBy (far-asked false) both, record-is cause sends false e)
+
+  pub sends-reached : (cause : Cause) → Sends (stepped s cause r) r → Reached (stepped s cause r .controller)
+  sends-reached cause sends = go (failed cause sends) refl
     where
-      carry : carries requests (s .n) (x .code) (x .channel) ≡ true
-      carry = carried cause sends
-
-      go : (t : Bool) → failed cause sends ≡ t →
-          let u = stepped s cause r .controller in
-          ((hiddenIn s x (r .sentK2) ≡ true) × (u ≡ recordAfter s now0 idleK1 idleK2 (r .sentK1)))
-          ⊎ ((opens (farK1 false) x (r .sentK2) local ≡ true)
-          × (u ≡ recordAfter s now0 (farK1 false) (farK2 false) (r .sentK1)))
-      go true e =
-          let hidden =
-          one-hidden-step (s .n) (s .mask) (s .w) (s .left) last (held last) (held x) x carry .1 (caused cause sends true e) in
-          let second : secondFits (r .sentK2) 0 ≡ true =
-          rw (bridge-none (x .channel) (keepsBridge x)) at (second-is cause sends true e) in
-          inl (and-eq-true-iff (unseen (commanded (held last) (held x)) x) (secondFits (r .sentK2) 0) .1 (hidden .possible, second), record-is cause sends true e)
-      go false e =
-          let opened =
-          one-step (s .n) (s .mask) (s .w) (s .left) last (far false) (held last) (held x) x carry .1
-          (caused cause sends false e) in
-          let both =
-          and-eq-true-iff (answers (far false) x local)
-          (secondFits (r .sentK2) (bridge (far false .channel) (x .channel) (keepsBridge x))) .1
-          (opened .possible, second-is cause sends false e) in
-          inr (subst OpenBy (far-asked false) both, record-is cause sends false e)
-
-  abbrev Some : Controller → Type 0
-  Some u = (cause : Cause) × Sends (stepped s cause r) r × (u ≡ stepped s cause r .controller)
+      go : (t : Bool) → failed cause sends ≡ t → Reached (stepped s cause r .controller)
+      go true e = let hides = failed-reached cause sends e in (hides .0, inl (hides .1, hides .2))
+      go false e = (carried cause sends, inr (open-reached cause sends e))
 
   -- and each of them is left by some cause
+  abbrev pub Some : Bool → Controller → Type 0
+  Some t u =
+      (cause : Cause)
+      × (eqb (protection (cause .conditions)) 2 ≡ t)
+      × Sends (stepped s cause r) r
+      × (u ≡ stepped s cause r .controller)
+
   caused-sends : (t : Bool) → Caused (s .n) (s .mask) (s .w) (s .left) last t (far t) (held last) (held x) x
       → secondFits (r .sentK2) (bridge (far t .channel) (x .channel) (keepsBridge x)) ≡ true
-      → Some (recordAfter s now0 (farK1 t) (farK2 t) (r .sentK1))
-  caused-sends t by fits = (cause, sends, sym (record-is cause sends t (by .protects)))
+      → Some t (recordAfter s now0 (farK1 t) (farK2 t) (r .sentK1))
+  caused-sends t by fits = (cause, by .protects, sends, sym (record-is cause sends t (by .protects)))
     where
       cause : Cause
       cause = record { conditions = by .conditions; command = by .command; channel = by .channel }
@@ -311,27 +324,29 @@ module _ (s : Controller) (r : Row) (able : Able s) where
                 ∙ sym (eqb-true (r .sentK2) (k2Of (bridge (far t .channel) (x .channel) (keepsBridge x))) fits);
           }
 
-  pub reached-sends : (u : Controller) → Reached u → Some u
+  pub failed-sends : carries requests (s .n) (x .code) (x .channel) ≡ true → hiddenIn s x (r .sentK2) ≡ true
+      → Some true (recordAfter s now0 idleK1 idleK2 (r .sentK1))
   unfolding accepting
-  reached-sends u (carry, how) =
-      ⊎-elim (λ h. subst Some (sym (h .1)) (hides (h .0))) (λ h. subst Some (sym (h .1)) (opened (h .0))) how
-    where
-      hides : hiddenIn s x (r .sentK2) ≡ true → Some (recordAfter s now0 idleK1 idleK2 (r .sentK1))
-      hides h =
-          let both = and-eq-true-iff (unseen (commanded (held last) (held x)) x) (secondFits (r .sentK2) 0) .0 h in
-          let by =
-          one-hidden-step (s .n) (s .mask) (s .w) (s .left) last (held last) (held x) x carry .0
-          record { before = refl; possible = both .0; afterwards = refl } in
-          caused-sends true by (rw (bridge-none (x .channel) (keepsBridge x)) (both .1))
+  failed-sends carry h =
+      let both = and-eq-true-iff (unseen (commanded (held last) (held x)) x) (secondFits (r .sentK2) 0) .0 h in
+      let by =
+      one-hidden-step (s .n) (s .mask) (s .w) (s .left) last (held last) (held x) x carry .0
+      record { before = refl; possible = both .0; afterwards = refl } in
+      caused-sends true by (rw (bridge-none (x .channel) (keepsBridge x)) (both .1))
 
-      opened : opens (farK1 false) x (r .sentK2) local ≡ true
-          → Some (recordAfter s now0 (farK1 false) (farK2 false) (r .sentK1))
-      opened h =
-          let here = subst OpenBy (sym (far-asked false)) h in
-          let both =
-          and-eq-true-iff (answers (far false) x local)
-          (secondFits (r .sentK2) (bridge (far false .channel) (x .channel) (keepsBridge x))) .0 here in
-          let by =
-          one-step (s .n) (s .mask) (s .w) (s .left) last (far false) (held last) (held x) x carry .0
-          record { before = refl; possible = both .0; afterwards = refl } in
-          caused-sends false by (both .1)
+  open-sends : carries requests (s .n) (x .code) (x .channel) ≡ true → opens (farK1 false) x (r .sentK2) local ≡ true
+      → Some false (recordAfter s now0 (farK1 false) (farK2 false) (r .sentK1))
+  open-sends carry h =
+      let here = subst OpenBy (sym (far-asked false)) h in
+      let both =
+      and-eq-true-iff (answers (far false) x local)
+      (secondFits (r .sentK2) (bridge (far false .channel) (x .channel) (keepsBridge x))) .0 here in
+      let by =
+      one-step (s .n) (s .mask) (s .w) (s .left) last (far false) (held last) (held x) x carry .0
+      record { before = refl; possible = both .0; afterwards = refl } in
+      caused-sends false by (both .1)
+
+  pub reached-sends : (u : Controller) → Reached u → (t : Bool) × Some t u
+  reached-sends u (carry, how) =
+      ⊎-elim (λ h. (true, subst (Some true) (sym (h .1)) (failed-sends carry (h .0))))
+      (λ h. (false, subst (Some false) (sym (h .1)) (open-sends carry (h .0)))) how

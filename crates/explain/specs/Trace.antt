@@ -6,7 +6,7 @@ use Prim.Native.Nat.{ℕ}
 use lib.Dec.{eqb}
 use Rattle.basics.specs.Choice.{if_then_else_}
 use Rattle.pair.specs.Request.{requests, carries}
-use Rattle.pair.specs.Marks.{channelOf, mark}
+use Rattle.pair.specs.Marks.{channelOf, usable, alarmIn}
 use Rattle.request.specs.Bridge.{bridge}
 use Rattle.request.specs.declared.Request.{Request}
 use Rattle.controller.specs.Settings.{idleK1, idleK2}
@@ -80,21 +80,23 @@ seenIn s sentK1 sentK2 =
 
 -- a byte of the accepted pair: the received one's, if that is usable, else the one before
 abbrev pub acceptedByte : Bool → ℕ → ℕ → ℕ
-acceptedByte usable received before = if usable then received else before
+acceptedByte fits received before = if fits then received else before
 
--- the sent K1 stands in the table; and with a usable pair received that pair is accepted, unless section 0 has failed
+-- the sent K1 stands in the table; with a usable pair received that pair is accepted, unless section 0 has failed; and with
+-- an alarm received section 0 has failed
 unfoldable pub next : Records → Row → Records
 next d r =
     let s = d .controller in
     let seen = seenIn s (r .sentK1) (r .sentK2) in
     let x = seen .request in
     let carried = carries requests (s .n) (x .code) (x .channel) in
-    let usable = eqb (mark (s .n) (r .k1) (r .k2)) 0 in
-    let k1 = acceptedByte usable (r .k1) (s .k1) in
+    let fits = usable (s .n) (r .k1) (r .k2) in
+    let unfailed = carried && not (alarmIn (r .k2)) in
+    let k1 = acceptedByte fits (r .k1) (s .k1) in
     record {
-      controller = recordAfter s (seen .now) k1 (acceptedByte usable (r .k2) (s .k2)) (r .sentK1);
-      heard = carried && opens k1 x (r .sentK2) (seen .local) && (usable || d .heard);
-      idle = carried && not usable && opens idleK1 x (r .sentK2) (seen .local) && d .idle || carried && seen .hidden;
+      controller = recordAfter s (seen .now) k1 (acceptedByte fits (r .k2) (s .k2)) (r .sentK1);
+      heard = unfailed && opens k1 x (r .sentK2) (seen .local) && (fits || d .heard);
+      idle = unfailed && not fits && opens idleK1 x (r .sentK2) (seen .local) && d .idle || carried && seen .hidden;
     }
 
 -- the verdict of the scan

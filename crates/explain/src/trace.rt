@@ -12,6 +12,7 @@ use controller::codes::NOTHING;
 use controller::codes::WAIT_TO_RESTORE;
 use controller::command::held;
 use controller::wait::wait_of;
+use pair::mark::alarm;
 use pair::mark::usable;
 use pair::request::carries;
 use request::Request;
@@ -72,10 +73,10 @@ fn seen_in(s: Controller, sent1: u8, sent2: u8) -> Seen
     }
 }
 
-fn accepted_byte(usable: bool, received: u8, before: u8) -> u8
-    ensures { λ r. ⌜ r ≡ acceptedByte usable received before ⌝ }
+fn accepted_byte(fits: bool, received: u8, before: u8) -> u8
+    ensures { λ r. ⌜ r ≡ acceptedByte fits received before ⌝ }
 {
-    if usable { received } else { before }
+    if fits { received } else { before }
 }
 
 // The same few operations whatever the bytes are: a branch that is taken in one step and not in the next costs more than
@@ -87,14 +88,16 @@ pub(crate) fn next(d: Records, k1: u8, k2: u8, sent1: u8, sent2: u8) -> Records
     let seen = seen_in(s, sent1, sent2);
     let x = seen.request;
     let carried = carries(s.n, x.code, x.channel);
-    let usable = usable(s.n, k1, k2);
-    let far = accepted_byte(usable, k1, s.k1);
-    let opened = carried & opens(far, x, sent2, seen.local);
-    let opened_idle = carried & !usable & opens(Controller::IDLE_K1, x, sent2, seen.local);
-    let controller = record_after(s, seen.now, far, accepted_byte(usable, k2, s.k2), sent1);
+    let fits = usable(s.n, k1, k2);
+    // A row with an alarm is one with section 0 failed (02, c).
+    let unfailed = carried & !alarm(k2);
+    let far = accepted_byte(fits, k1, s.k1);
+    let opened = unfailed & opens(far, x, sent2, seen.local);
+    let opened_idle = unfailed & !fits & opens(Controller::IDLE_K1, x, sent2, seen.local);
+    let controller = record_after(s, seen.now, far, accepted_byte(fits, k2, s.k2), sent1);
     Records {
         controller,
-        heard: opened & (usable | d.heard),
+        heard: opened & (fits | d.heard),
         idle: (opened_idle & d.idle) | (carried & seen.hidden),
     }
 }

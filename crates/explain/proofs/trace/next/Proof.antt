@@ -12,6 +12,9 @@ carries-requires c κs = search needs
 usable-requires : tie.Need-usable-requires
 usable-requires c κs = search needs
 
+alarm-requires : tie.Need-alarm-requires
+alarm-requires c κs = search needs
+
 accepted-byte-requires : tie.Need-accepted-byte-requires
 accepted-byte-requires c κs = search needs
 
@@ -30,16 +33,17 @@ record-after-requires c κs = search needs
 returns : tie.Need-returns
 unfolding next
 returns c =
-    let usable = c .before .before .before .before .before .before .before .before in
+    let quiet = c .before .before .before .before .before .before .before .before in
     rw (
       c .before .before .before .record-after .ensures,
       c .before .before .before .before .accepted-byte2 .ensures,
       c .before .before .before .before .before .opens2 .ensures,
       c .before .before .before .before .before .before .opens .ensures,
       c .before .before .before .before .before .before .before .accepted-byte .ensures,
-      usable .usable .ensures,
-      usable .before .carries .ensures,
-      usable .before .before .before .seen-in .ensures,
+      quiet .alarm .ensures,
+      quiet .before .usable .ensures,
+      quiet .before .before .carries .ensures,
+      quiet .before .before .before .before .seen-in .ensures,
     )
 
 pub next-spec : {M : Type 1} → statement M
@@ -49,6 +53,7 @@ next-spec =
     seen-in-requires
     carries-requires
     usable-requires
+    alarm-requires
     accepted-byte-requires
     opens-requires
     opens-requires-2
