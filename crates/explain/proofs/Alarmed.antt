@@ -1,7 +1,8 @@
 -- A row that received an alarm (02, c): by the controller's equation, the row that received 00 08 with section 0 failed.
-use mathlib.Core.Path.{_≡_, refl, sym, ap, subst, _∙_}
+use mathlib.Core.Path.{_≡_, refl, sym, ap, _∙_}
 use mathlib.Core.Bool.{true, and-eq-true-iff, false≢true}
 use mathlib.Core.List.{List, [], _∷_}
+use mathlib.Core.Logic.{_↔_}
 use Prim.Native.Nat.{ℕ, _+_}
 use native.Mathlib.Omega.{arith}
 use lib.Dec.{leb, eqb}
@@ -22,16 +23,9 @@ use Rattle.explain.specs.Explained.{Cause, stepped, Sends}
 abbrev pub quieted : Row → Row
 quieted r = row idleK1 idleK2 (r .sentK1) (r .sentK2)
 
--- to send its bytes is to send the row's
-pub quieted-sends : (o : Outcome) (r : Row) → Sends o r → Sends o (quieted r)
-quieted-sends o r h = record { not-refused = h .not-refused; first = h .first; second = h .second }
-
-pub sends-quieted : (o : Outcome) (r : Row) → Sends o (quieted r) → Sends o r
-sends-quieted o r h = record { not-refused = h .not-refused; first = h .first; second = h .second }
-
 module _ (s : Controller) (r : Row) (loud : alarm (s .n) (r .k1) (r .k2) ≡ true) where
   -- what it answers under some cause is answered to 00 08 under a cause with section 0 failed
-  pub alarm-failed : (cause : Cause) → Sends (stepped s cause r) r
+  alarm-failed : (cause : Cause) → Sends (stepped s cause r) r
       → (c : Cause) × (eqb (protection (c .conditions)) 2 ≡ true) × (stepped s cause r ≡ stepped s c (quieted r))
   unfolding conditionsFit
   alarm-failed cause sends = go (cause .conditions) refl
@@ -49,12 +43,12 @@ module _ (s : Controller) (r : Row) (loud : alarm (s .n) (r .k1) (r .k2) ≡ tru
             record { conditions = 2 ∷ working; command = cause .command; channel = cause .channel },
             refl,
             ap (λ (xs : List ℕ). step s (r .k1) (r .k2) xs (cause .command) (cause .channel)) e
-            ∙ alarm-step s (cause .command) (cause .channel) (r .k1) (r .k2) idleK1 idleK2 x working loud
-            (and-eq-true-iff (leb x 2) (conditionsFit working) .0 fit .0),
+                ∙ alarm-step s (cause .command) (cause .channel) (r .k1) (r .k2) idleK1 idleK2 x working loud
+                (and-eq-true-iff (leb x 2) (conditionsFit working) .0 fit .0),
           )
 
   -- and what 00 08 is answered with section 0 failed, it is answered too
-  pub failed-alarm : (cause : Cause) → eqb (protection (cause .conditions)) 2 ≡ true
+  failed-alarm : (cause : Cause) → eqb (protection (cause .conditions)) 2 ≡ true
       → stepped s cause r ≡ stepped s cause (quieted r)
   failed-alarm cause failed = go (cause .conditions) refl
     where
@@ -66,3 +60,42 @@ module _ (s : Controller) (r : Row) (loud : alarm (s .n) (r .k1) (r .k2) ≡ tru
           ap (λ (xs : List ℕ). step s (r .k1) (r .k2) xs (cause .command) (cause .channel)) whole
           ∙ alarm-step s (cause .command) (cause .channel) (r .k1) (r .k2) idleK1 idleK2 2 working loud refl
           ∙ ap (λ (xs : List ℕ). step s idleK1 idleK2 xs (cause .command) (cause .channel)) (sym whole)
+
+  -- some cause leads to a record by the row; one with section 0 failed leads to it by the other
+  abbrev pub Leads : Controller → Type 0
+  Leads u = (c : Cause) × Sends (stepped s c r) r × (u ≡ stepped s c r .controller)
+
+  abbrev pub LeadsFailed : Controller → Type 0
+  LeadsFailed u =
+      (c : Cause)
+      × (eqb (protection (c .conditions)) 2 ≡ true)
+      × Sends (stepped s c (quieted r)) (quieted r)
+      × (u ≡ stepped s c (quieted r) .controller)
+
+  pub alarm-exact : (u : Controller) → Leads u ↔ LeadsFailed u
+  alarm-exact u = (forward, backward)
+    where
+      forward : Leads u → LeadsFailed u
+      forward (cause, sends, is) =
+          let (c, failed, same) = alarm-failed cause sends in (
+            c,
+            failed,
+            record {
+              not-refused = rw same at (sends .not-refused);
+              first = rw same at (sends .first);
+              second = rw same at (sends .second);
+            },
+            is ∙ ap (λ (o : Outcome). o .controller) same,
+          )
+
+      backward : LeadsFailed u → Leads u
+      backward (c, failed, sends, is) =
+          let same = failed-alarm c failed in (
+            c,
+            record {
+              not-refused = rw same (sends .not-refused);
+              first = rw same (sends .first);
+              second = rw same (sends .second);
+            },
+            is ∙ ap (λ (o : Outcome). o .controller) (sym same),
+          )

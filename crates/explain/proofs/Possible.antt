@@ -1,5 +1,5 @@
 -- The two flags hold the set of records that some causes can have reached, no more and no less.
-use mathlib.Core.Path.{_≡_, refl, sym, ap, subst, _∙_}
+use mathlib.Core.Path.{_≡_, refl, sym, subst, _∙_}
 use mathlib.Core.Bool.{Bool, true, false, _&&_, _||_, and-eq-true-iff, false≢true}
 use mathlib.Core.Logic.{_↔_, _⊎_, inl, inr, ⊎-elim}
 use Prim.Native.Nat.{ℕ}
@@ -15,12 +15,11 @@ use Rattle.controller.specs.Settings.{idleK1, idleK2}
 use Rattle.controller.specs.Rules.{asked}
 use Rattle.controller.specs.Step.{waitOf}
 use Rattle.controller.specs.declared.Controller.{Controller}
-use Rattle.controller.specs.declared.Outcome.{Outcome}
 use Rattle.explain.specs.Capture.{Row}
 use Rattle.explain.specs.Explained.{Cause, stepped, Sends}
 use Rattle.explain.specs.Trace.{idled, live, opens, localIn, hiddenIn, recordAfter, acceptedByte, next}
 use Rattle.explain.specs.declared.Records.{Records}
-use Rattle.explain.proofs.Alarmed.{quieted, quieted-sends, sends-quieted, alarm-failed, failed-alarm}
+use Rattle.explain.proofs.Alarmed.{quieted, alarm-exact}
 use Rattle.explain.proofs.Reached.{Able, Reached, far-accepted, failed-reached, sends-reached, failed-sends, reached-sends}
 
 -- the records that the flags leave open
@@ -90,7 +89,6 @@ module _ (d : Records) (r : Row) where
   abbrev sendable : Bool
   sendable = carries requests (base .n) (x .code) (x .channel)
 
-
   -- nothing is left
   next-lost : sendable ≡ false → (next d r .heard ≡ false) × (next d r .idle ≡ false)
   unfolding next
@@ -129,25 +127,18 @@ module _ (d : Records) (r : Row) where
           by-failed : (k1 k2 : ℕ) → In d (holding k1 k2) → From u
           by-failed k1 k2 i =
               let s = holding k1 k2 in
-              let (c, failed, sends, is) =
-              failed-sends s (quieted r) (good s i) (alarm-test (s .n) idleK1 idleK2) e h in
-              let same = failed-alarm s r (rings (s .n)) c failed in (
-                s,
-                c,
-                i,
-                sends-quieted (stepped s c r) r (subst (λ (o : Outcome). Sends o (quieted r)) (sym same) sends),
-                k ∙ is ∙ ap (λ (o : Outcome). o .controller) (sym same),
-              )
+              let led = failed-sends s (quieted r) (good s i) (alarm-test (s .n) idleK1 idleK2) e h in
+              let (c, sends, is) = alarm-exact s r (rings (s .n)) (after idleK1 idleK2) .1 led in
+              (s, c, i, sends, k ∙ is)
 
       by-alarm : (k1 k2 : ℕ) (s : Controller) → In d s → s ≡ holding k1 k2 → (c : Cause) → Sends (stepped s c r) r
           → (u : Controller) → u ≡ stepped s c r .controller → (sendable ≡ true) × In alarmed u
       by-alarm k1 k2 s i is c sends u k =
-          let (by, failed, same) = alarm-failed s r (rings (s .n)) c sends in
-          let sent = subst (λ (o : Outcome). Sends o (quieted r)) same (quieted-sends (stepped s c r) r sends) in
+          let (by, failed, sent, is′) = alarm-exact s r (rings (s .n)) u .0 (c, sends, k) in
           let reached =
           failed-reached s (quieted r) (good s i) (alarm-test (s .n) idleK1 idleK2) by sent failed in
           let left : u ≡ recordAfter s (waitOf s (asked (s .sent)) 0) idleK1 idleK2 (r .sentK1) =
-          k ∙ ap (λ (o : Outcome). o .controller) same ∙ reached .2 in
+          is′ ∙ reached .2 in
           (rw is at (reached .0), inr (rw is at (reached .1), rw is at left))
 
       out-of-alarmed : (u : Controller) → From u → (sendable ≡ true) × In alarmed u

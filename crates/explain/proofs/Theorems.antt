@@ -4,23 +4,27 @@ use mathlib.Core.Bool.{true, false}
 use mathlib.Core.List.{List}
 use mathlib.Core.Logic.{_↔_, _⊎_}
 use Prim.Native.Nat.{ℕ, _+_, _<_}
+use lib.Dec.{eqb}
 use lib.ListN.{length, take}
 use Rattle.basics.specs.First.{firstOf}
 use Rattle.basics.proofs.One.{OneAnswer}
 use Rattle.pair.specs.Request.{requests, carries}
+use Rattle.pair.specs.Marks.{alarm}
 use Rattle.pair.specs.Coder.{sectionsFit}
 use Rattle.request.specs.declared.Request.{Request}
-use Rattle.controller.specs.Settings.{maskFits, fresh}
+use Rattle.controller.specs.Settings.{maskFits, idleK1, idleK2, fresh}
 use Rattle.controller.specs.Rules.{noRequest}
 use Rattle.controller.specs.Refusals.{acceptable}
-use Rattle.explain.specs.Capture.{Row, rowsOf}
+use Rattle.controller.specs.Step.{protection}
 use Rattle.controller.specs.declared.Controller.{Controller}
+use Rattle.explain.specs.Capture.{Row, row, rowsOf}
 use Rattle.explain.specs.Explained.{Cause, stepped, Sends, Explained}
 use Rattle.explain.specs.Verdict.{Judging, explainedAt, unexplainedAt, refusedBy, judgeFaults, Right}
 use Rattle.explain.specs.Lines.{lines, AllRight}
 use Rattle.explain.specs.Trace.{idled, start, live, next}
 use Rattle.explain.specs.declared.Records.{Records}
 use Rattle.explain.proofs.OneStep.{Caused, Open, Hidden, one-step, one-hidden-step}
+use Rattle.explain.proofs.Alarmed.{alarm-exact}
 use Rattle.explain.proofs.Reached.{Able, able-next}
 use Rattle.explain.proofs.Possible.{In, next-in}
 use Rattle.explain.proofs.Exact.{explained-prefix, begin-able, right-one, told-one, explained-exact}
@@ -86,6 +90,17 @@ hidden-step-exact : (n mask w left : ℕ) (last hold after x : Request)
     → carries requests n (x .code) (x .channel) ≡ true
     → Hidden n mask w left last hold after x ↔ Caused n mask w left last true noRequest hold after x
 hidden-step-exact = one-hidden-step
+
+-- A row that received an alarm (02, c): some cause leads to a record by it exactly if one with section 0 failed does by the
+-- row that received 00 08. So it needs no closed form of its own.
+alarm-step-exact : (s : Controller) (r : Row) → alarm (s .n) (r .k1) (r .k2) ≡ true → (u : Controller) →
+    let r′ = row idleK1 idleK2 (r .sentK1) (r .sentK2) in
+    ((c : Cause) × Sends (stepped s c r) r × (u ≡ stepped s c r .controller))
+    ↔ ((c : Cause)
+    × (eqb (protection (c .conditions)) 2 ≡ true)
+    × Sends (stepped s c r′) r′
+    × (u ≡ stepped s c r′ .controller))
+alarm-step-exact = alarm-exact
 
 -- The scan keeps a record and two flags. `In d s`: they leave the record s open, with the last usable pair as accepted or
 -- with 00 08.
