@@ -125,7 +125,7 @@ size-unique κs args x y s t p q = one-value (p .1 .1) (q .1 .1)
 record-long : (s : Controller) → length (recordBytes s) ≡ 10
 record-long = record-size
 
-decoded-long : (d : Decoding) → length (decodedBytes d) ≡ 5
+decoded-long : (d : Decoding) → length (decodedBytes d) ≡ 6
 decoded-long d = refl
 
 encoded-long : (e : Encoding) → length (encodedBytes e) ≡ 2

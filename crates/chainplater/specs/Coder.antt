@@ -7,11 +7,11 @@ use Rattle.basics.specs.Choice.{if_then_else_}
 use Rattle.pair.specs.Coder.{Decoding, Encoding, sectionsFit, encoding}
 
 abbrev pub flag : Bool → ℕ
-flag remote = if remote then 1 else 0
+flag t = if t then 1 else 0
 
--- mark, code, channel, bridged channel, remote-defect flag
+-- mark, code, channel, bridged channel, remote-defect flag, alarm flag
 abbrev pub decodedBytes : Decoding → List ℕ
-decodedBytes d = d .mark ∷ d .code ∷ d .channel ∷ d .bridged ∷ flag (d .remote) ∷ []
+decodedBytes d = d .mark ∷ d .code ∷ d .channel ∷ d .bridged ∷ flag (d .remote) ∷ flag (d .alarm) ∷ []
 
 abbrev pub encodedBytes : Encoding → List ℕ
 encodedBytes e = e .k1 ∷ e .k2 ∷ []

@@ -48,21 +48,25 @@ fn flag(remote: bool) -> u8
 }
 
 #[no_mangle]
-pub extern "C" fn chainplater_decode(n: u8, k1: u8, k2: u8, out: &mut [u8; 5]) -> u8
+pub extern "C" fn chainplater_decode(n: u8, k1: u8, k2: u8, out: &mut [u8; 6]) -> u8
     ensures { λ r. ⌜ r ≡ decoding n k1 k2 .refusal ⌝ }
     ensures { λ _. ⌜ now (out .exit) ≡ decodedBytes (decoding n k1 k2) ⌝ }
 {
     match pair::decode(n, k1, k2) {
         Decoded::Usable(p) => {
-            *out = [0, p.code, p.channel, p.bridged, flag(p.remote)];
+            *out = [0, p.code, p.channel, p.bridged, flag(p.remote), 0];
             0
         }
         Decoded::Marked(m) => {
-            *out = [m, 0, 0, 0, 0];
+            *out = [m, 0, 0, 0, 0, 0];
+            0
+        }
+        Decoded::Alarm => {
+            *out = [0, 0, 0, 0, 0, 1];
             0
         }
         Decoded::Refused(k) => {
-            *out = [0, 0, 0, 0, 0];
+            *out = [0, 0, 0, 0, 0, 0];
             k
         }
     }

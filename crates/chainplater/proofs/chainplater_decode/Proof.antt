@@ -18,6 +18,9 @@ flag-requires c κs = search needs
 enum-known-m : tie.Need-enum-known-m
 enum-known-m c = search needs
 
+enum-told : tie.Need-enum-told
+enum-told c = search needs
+
 enum-known-k : tie.Need-enum-known-k
 enum-known-k c = search needs
 
@@ -35,6 +38,12 @@ returns-2 c =
 
 returns-3 : tie.Need-returns-3
 returns-3 c =
+    let call = c .before .before .before .decode in
+    let answer = ap decodingTold (sym (c .before .enum-told .given .1)) ∙ call .ensures .numbers in
+    (ap (λ (d : Decoding). d .refusal) answer, ap decodedBytes answer)
+
+returns-4 : tie.Need-returns-4
+returns-4 c =
     let call = c .before .before .before .before .decode in
     let answer = ap decodingTold (sym (c .before .before .k .given .1)) ∙ call .ensures .numbers in
     (ap (λ (d : Decoding). d .refusal) answer, ap decodedBytes answer)
@@ -47,7 +56,9 @@ chainplater-decode-spec =
     enum-known-p
     flag-requires
     enum-known-m
+    enum-told
     enum-known-k
     returns
     returns-2
-    returns-3)
+    returns-3
+    returns-4)
