@@ -5,7 +5,7 @@
 //! holds, the section it waits for, and the one that stays among its equals, are
 //! read back from the K1 last sent.
 
-use crate::pair::{self, Request};
+use crate::pair::{self, Received, Request};
 use std::cmp::Reverse;
 
 /// The greatest condition a section can have (paper: "One step").
@@ -61,7 +61,7 @@ impl Record {
     /// have left such a record (paper: refusal 3).
     fn read(&self) -> Option<(pair::Record, K1)> {
         let [k1, k2] = self.accepted;
-        let accepted = pair::read(self.n, k1, k2).ok()?;
+        let accepted = pair::read(self.n, k1, k2).usable()?;
         let last = K1::read(self.n, self.sent)?;
         let possible = self.agrees_with_mask(last) && self.has_wait_of(last.request);
         possible.then_some((accepted, last))
@@ -154,14 +154,17 @@ fn check_settings(n: u8, mask: u16) -> Result<(), Refusal> {
     }
 }
 
-fn check_conditions(n: u8, conditions: &[u8]) -> Result<(), Refusal> {
-    if conditions.len() != usize::from(n) + 1 {
-        return Err(Refusal::ConditionCount);
-    }
+/// Refusals 4 and 5, which look at what was handed in, whatever is received with it
+/// (paper: 02, c). Parts section 0 from the others.
+fn check_conditions(n: u8, conditions: &[u8]) -> Result<(u8, &[u8]), Refusal> {
+    let (&protection, sections) = conditions
+        .split_first()
+        .filter(|(_, sections)| sections.len() == usize::from(n))
+        .ok_or(Refusal::ConditionCount)?;
     if conditions.iter().any(|&condition| condition > FAILED) {
         return Err(Refusal::Condition);
     }
-    Ok(())
+    Ok((protection, sections))
 }
 
 /// What a K1 byte asks for.
@@ -266,7 +269,9 @@ struct Step<'a> {
     accepted: pair::Record,
     /// What the K1 last sent asks for.
     last: K1,
-    conditions: &'a [u8],
+    /// The condition of section 0, and those of the sections from 1 up.
+    protection: u8,
+    sections: &'a [u8],
     command: Command,
 }
 
@@ -281,19 +286,25 @@ impl<'a> Step<'a> {
     ) -> Result<Self, Refusal> {
         check_settings(record.n, record.mask)?;
         let (accepted, last) = record.read().ok_or(Refusal::Record)?;
-        check_conditions(record.n, conditions)?;
+        let (protection, sections) = check_conditions(record.n, conditions)?;
         let command = Command::read(record.n, command, channel)?;
         Ok(Self {
             record,
             accepted,
             last,
-            conditions,
+            protection,
+            sections,
             command,
         })
     }
 
-    fn answer(&self, k1: u8, k2: u8) -> Answer {
-        let (accepted, mark) = self.accept(k1, k2);
+    fn answer(mut self, k1: u8, k2: u8) -> Answer {
+        let received = pair::read(self.record.n, k1, k2);
+        // The line card will say the same, but some steps late (paper: 02, c).
+        if received == Received::Alarm {
+            self.protection = FAILED;
+        }
+        let (accepted, mark) = self.accept(received);
         let (command, fate) = self.weigh_command();
         let wait = self.wait();
         let local = self.local_request(command, wait);
@@ -318,15 +329,14 @@ impl<'a> Step<'a> {
     }
 
     /// Rule 1: the pair accepted from now on, and the mark of the received one.
-    fn accept(&self, k1: u8, k2: u8) -> (pair::Record, u8) {
-        // The pairs travel on protection (G.841, 7.1.1.8), so while it has failed
-        // nothing that seems to arrive is worth a look, nor a mark.
-        if self.conditions.first() == Some(&FAILED) {
-            return (IDLE, 0);
-        }
-        match pair::read(self.record.n, k1, k2) {
-            Ok(received) => (received, 0),
-            Err(mark) => (self.accepted, mark.number()),
+    fn accept(&self, received: Received) -> (pair::Record, u8) {
+        match received {
+            // The pairs travel on protection (G.841, 7.1.1.8), so while it has failed
+            // nothing that seems to arrive is worth a look, nor a mark.
+            _ if self.protection == FAILED => (IDLE, 0),
+            Received::Alarm => (IDLE, 0),
+            Received::Usable(record) => (record, 0),
+            Received::Marked(mark) => (self.accepted, mark.number()),
         }
     }
 
@@ -371,9 +381,11 @@ impl<'a> Step<'a> {
             request: Request::WaitToRestore,
             channel: self.last.channel,
         };
-        let sections = (0..=self.record.n).zip(self.conditions);
-        sections
+        let of_protection = self.condition_request(0, self.protection);
+        (1..)
+            .zip(self.sections)
             .filter_map(|(section, &condition)| self.condition_request(section, condition))
+            .chain(of_protection)
             .chain(command)
             .chain((wait > 0).then_some(waiting))
             .max_by_key(|&candidate| self.local_standing(candidate))

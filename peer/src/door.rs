@@ -6,7 +6,7 @@ mod peer;
 pub use peer::{record_bytes, record_of, verdict_bytes, Peer};
 
 pub const RECORD: usize = 10;
-pub const DECODED: usize = 5;
+pub const DECODED: usize = 6;
 pub const ENCODED: usize = 2;
 pub const STEP: usize = 17;
 pub const VERDICT: usize = 3;

@@ -76,7 +76,7 @@ impl Door for Library {
 
     #[inline]
     fn decode(&self, n: u8, k1: u8, k2: u8, out: &mut [u8; DECODED]) -> u8 {
-        // SAFETY: `out` has the 5 bytes that are written.
+        // SAFETY: `out` has the 6 bytes that are written.
         unsafe { declared::chainplater_decode(n, k1, k2, out.as_mut_ptr()) }
     }
 

@@ -13,6 +13,8 @@ const ONE_TO_N: u8 = 0b0000_1000;
 const LINE_BITS: u8 = 0b0000_0111;
 const LINE_GOOD: u8 = 0b000;
 const LINE_REMOTE_DEFECT: u8 = 0b110;
+/// The multiplex section carries an alarm signal (paper: 02, c).
+const LINE_ALARM: u8 = 0b111;
 
 /// A call that is turned down, under the paper's number for it.
 #[derive(Clone, Copy, Debug, PartialEq, Eq)]
@@ -31,7 +33,7 @@ impl Refusal {
 }
 
 /// Why a pair is not usable, under the paper's number for it. Mark 0 has no
-/// case: a usable pair is a [`Received::Usable`].
+/// case: it goes with a [`Received::Usable`] and a [`Received::Alarm`].
 #[derive(Clone, Copy, Debug, PartialEq, Eq)]
 #[repr(u8)]
 pub enum Mark {
@@ -59,11 +61,22 @@ pub struct Record {
 }
 
 /// A pair that was looked at. An unusable one carries its mark and nothing
-/// else, so no caller can act on half a record.
+/// else, so no caller can act on half a record. An alarm carries nothing: what
+/// else the pair would say is not looked at (paper: 02, c).
 #[derive(Clone, Copy, Debug, PartialEq, Eq)]
 pub enum Received {
     Usable(Record),
+    Alarm,
     Marked(Mark),
+}
+
+impl Received {
+    pub(crate) fn usable(self) -> Option<Record> {
+        match self {
+            Self::Usable(record) => Some(record),
+            Self::Alarm | Self::Marked(_) => None,
+        }
+    }
 }
 
 /// The requests that the paper's table uses, under their codes. Code 1101 is one
@@ -153,10 +166,7 @@ pub fn rank(code: u8, channel: u8) -> u8 {
 /// Reads a received pair in a group of `n` sections.
 pub fn decode(n: u8, k1: u8, k2: u8) -> Result<Received, Refusal> {
     check_sections(n)?;
-    Ok(match read(n, k1, k2) {
-        Ok(record) => Received::Usable(record),
-        Err(mark) => Received::Marked(mark),
-    })
+    Ok(read(n, k1, k2))
 }
 
 /// Writes a record as the pair, K1 first, that decodes to it.
@@ -192,15 +202,21 @@ pub(crate) fn check_sections(n: u8) -> Result<(), Refusal> {
     }
 }
 
-/// Reads a pair in a group whose size is known to be one. The order of the
-/// checks is the paper's: the first that fails is the mark.
-pub(crate) fn read(n: u8, k1: u8, k2: u8) -> Result<Record, Mark> {
+/// Reads a pair in a group whose size is known to be one.
+pub(crate) fn read(n: u8, k1: u8, k2: u8) -> Received {
+    read_or_mark(n, k1, k2).unwrap_or_else(Received::Marked)
+}
+
+/// The order of the checks is the paper's: the first that fails is the mark, and
+/// an alarm ends them (paper: "The byte pair"; 02, c).
+fn read_or_mark(n: u8, k1: u8, k2: u8) -> Result<Received, Mark> {
     if k2 & ONE_TO_N == 0 {
         return Err(Mark::BitFive);
     }
     let remote_defect = match k2 & LINE_BITS {
         LINE_GOOD => false,
         LINE_REMOTE_DEFECT => true,
+        LINE_ALARM => return Ok(Received::Alarm),
         _ => return Err(Mark::LineBits),
     };
     let (request, channel) = read_k1(n, k1)?;
@@ -208,12 +224,12 @@ pub(crate) fn read(n: u8, k1: u8, k2: u8) -> Result<Record, Mark> {
     if bridged > n {
         return Err(Mark::Bridged);
     }
-    Ok(Record {
+    Ok(Received::Usable(Record {
         code: request.code(),
         channel,
         bridged,
         remote_defect,
-    })
+    }))
 }
 
 /// The part of [`read`] that needs no K2: a controller remembers only the K1 of
@@ -251,9 +267,9 @@ mod tests {
     }
 
     fn usable(n: u8) -> impl Iterator<Item = ([u8; 2], Record)> {
-        all_pairs().filter_map(move |[k1, k2]| match decode(n, k1, k2) {
-            Ok(Received::Usable(record)) => Some(([k1, k2], record)),
-            _ => None,
+        all_pairs().filter_map(move |[k1, k2]| {
+            let record = decode(n, k1, k2).ok()?.usable()?;
+            Some(([k1, k2], record))
         })
     }
 
@@ -293,41 +309,49 @@ mod tests {
         assert_eq!(decode(14, 0xAE, 0xF8), Ok(Received::Marked(Mark::Bridged)));
     }
 
-    /// Starts with every fault at once and mends one after the other.
+    /// Starts with every fault at once and mends one after the other. The second
+    /// is the alarm, which has no mark.
     #[test]
     fn the_first_fault_gives_the_mark() {
         let mended = [
-            ([0x1F, 0xF1], 1),
+            ([0x1F, 0xF7], 1),
+            ([0x1F, 0xFF], 0),
             ([0x1F, 0xF9], 2),
             ([0x1F, 0xFE], 3),
             ([0xAF, 0xFE], 4),
             ([0xA2, 0xFE], 5),
         ];
         for ([k1, k2], number) in mended {
-            let Ok(Received::Marked(mark)) = decode(2, k1, k2) else {
-                panic!("{k1:02X} {k2:02X} has no mark");
+            let mark = match decode(2, k1, k2) {
+                Ok(Received::Marked(mark)) => mark.number(),
+                Ok(Received::Alarm) => 0,
+                other => panic!("{k1:02X} {k2:02X} is {other:?}"),
             };
-            assert_eq!(mark.number(), number, "{k1:02X} {k2:02X}");
+            assert_eq!(mark, number, "{k1:02X} {k2:02X}");
         }
         let read = record(0b1010, 2, 2, true);
         assert_eq!(decode(2, 0xA2, 0x2E), Ok(Received::Usable(read)));
     }
 
+    /// The paper's table in a group of that size: code, first and last channel.
+    fn rows(n: u8) -> [(u8, u8, u8); 10] {
+        [
+            (0xF, 0, 0),
+            (0xE, 1, n),
+            (0xD, 0, n),
+            (0xC, 1, n),
+            (0xB, 0, n),
+            (0xA, 1, n),
+            (0x8, 1, n),
+            (0x6, 1, n),
+            (0x2, 0, n),
+            (0x0, 0, 0),
+        ]
+    }
+
     #[test]
     fn channels_at_the_edges_of_each_row() {
-        let rows = [
-            (0xF, 0, 0),
-            (0xE, 1, 5),
-            (0xD, 0, 5),
-            (0xC, 1, 5),
-            (0xB, 0, 5),
-            (0xA, 1, 5),
-            (0x8, 1, 5),
-            (0x6, 1, 5),
-            (0x2, 0, 5),
-            (0x0, 0, 0),
-        ];
-        for (code, first, last) in rows {
+        for (code, first, last) in rows(5) {
             for channel in 0..=15 {
                 let read = decode(5, (code << 4) | channel, 0x08);
                 let expected = if (first..=last).contains(&channel) {
@@ -337,6 +361,54 @@ mod tests {
                 };
                 assert_eq!(read, Ok(expected), "{code:X}{channel:X}");
             }
+        }
+    }
+
+    /// Every check by itself, none of them leaning on those before it: the answer
+    /// is that of the first which stops the pair (01 with 02, c).
+    fn checked(n: u8, [k1, k2]: [u8; 2]) -> Received {
+        let (code, channel, bridged) = (k1 >> 4, k1 & 0b1111, k2 >> 4);
+        let row = rows(n).into_iter().find(|&(listed, ..)| listed == code);
+        let has_channel = |(_, first, last): (u8, u8, u8)| (first..=last).contains(&channel);
+        let line = k2 & 0b111;
+        let checks = [
+            (k2 & 0b1000 == 0, Received::Marked(Mark::BitFive)),
+            (line == 0b111, Received::Alarm),
+            (
+                ![0b000, 0b110].contains(&line),
+                Received::Marked(Mark::LineBits),
+            ),
+            (row.is_none(), Received::Marked(Mark::Code)),
+            (
+                !row.is_some_and(has_channel),
+                Received::Marked(Mark::Channel),
+            ),
+            (bridged > n, Received::Marked(Mark::Bridged)),
+        ];
+        let stopped = checks.into_iter().find(|&(stops, _)| stops);
+        let read = record(code, channel, bridged, line == 0b110);
+        stopped.map_or(Received::Usable(read), |(_, answer)| answer)
+    }
+
+    #[test]
+    fn all_pairs_are_checked_in_the_order_of_the_paper() {
+        for n in 1..=14 {
+            for [k1, k2] in all_pairs() {
+                let expected = checked(n, [k1, k2]);
+                assert_eq!(decode(n, k1, k2), Ok(expected), "{n} {k1:02X} {k2:02X}");
+            }
+        }
+    }
+
+    /// The four last bits of K2 alone make it, and all of them have to be set.
+    #[test]
+    fn one_pair_of_sixteen_is_an_alarm() {
+        for n in 1..=14 {
+            let alarms: Vec<[u8; 2]> = all_pairs()
+                .filter(|&[k1, k2]| decode(n, k1, k2) == Ok(Received::Alarm))
+                .collect();
+            assert_eq!(alarms.len(), 65_536 / 16);
+            assert!(alarms.iter().all(|[_, k2]| k2 & 0b1111 == 0b1111));
         }
     }
 
@@ -406,9 +478,11 @@ mod tests {
                 let field = |place: u32| (triple / 18u16.pow(place) % 18) as u8;
                 for remote in [false, true] {
                     let tried = record(field(2), field(1), field(0), remote);
-                    let encoded = encode(n, tried);
-                    assert_eq!(encoded.is_ok(), known.contains(&tried), "{tried:?}");
-                    assert!(matches!(encoded, Ok(_) | Err(Refusal::Record)));
+                    // Never an alarm, which is no record (02, c).
+                    let decoded = encode(n, tried).map(|[k1, k2]| read(n, k1, k2));
+                    let record = known.get(&tried).copied();
+                    let expected = record.map(Received::Usable).ok_or(Refusal::Record);
+                    assert_eq!(decoded, expected, "{tried:?}");
                 }
             }
         }
@@ -433,6 +507,7 @@ mod tests {
         for n in std::iter::once(0).chain(15..=255) {
             assert_eq!(decode(n, 0x00, 0x08), Err(Refusal::Sections));
             assert_eq!(decode(n, 0xFF, 0xF1), Err(Refusal::Sections));
+            assert_eq!(decode(n, 0x00, 0x0F), Err(Refusal::Sections));
             assert_eq!(encode(n, wrong), Err(Refusal::Sections));
         }
         assert_eq!(Refusal::Sections.number(), 1);

@@ -32,11 +32,12 @@ fn print_mark(letter: u8, m: u8) {
     print_digit(m);
 }
 
-// A cell is four wide: the rank, or m and the mark.
+// A cell is four wide: the rank, m and the mark, or al.
 fn print_cell(d: Decoded) {
     match d {
         Decoded::Usable(p) => print_rank(rank(p.code, p.channel)),
         Decoded::Marked(m) => print_mark(b'm', m),
+        Decoded::Alarm => print(b"  al"),
         Decoded::Refused(k) => print_mark(b'r', k),
     }
 }
@@ -67,7 +68,7 @@ fn print_title(g: Grid) {
     } else {
         print(b": each K2, with K1 = 00");
     }
-    print(b": rank, or m and the mark\n  ");
+    print(b": rank, m and the mark, or al for an alarm\n  ");
 }
 
 fn print_heading() {
@@ -112,16 +113,17 @@ fn given_back(n: u8, p: Pair, k1: u8, k2: u8) -> bool {
     (a == k1) & (b == k2)
 }
 
-// Place 0 counts the refused, 1 to 5 the marks, 6 the usable, 7 those given back by encode.
+// Place 0 counts the refused, 1 to 5 the marks, 6 the alarms, 7 the usable, 8 those given back by encode.
 fn count_pair(counts: &mut [u32], n: u8, k1: u8, k2: u8) {
     match decode(n, k1, k2) {
         Decoded::Usable(p) => {
-            add(counts, 6, 1);
+            add(counts, 7, 1);
             if given_back(n, p, k1, k2) {
-                add(counts, 7, 1);
+                add(counts, 8, 1);
             }
         }
         Decoded::Marked(m) => add(counts, m as usize, 1),
+        Decoded::Alarm => add(counts, 6, 1),
         Decoded::Refused(_) => add(counts, 0, 1),
     }
 }
@@ -160,7 +162,7 @@ fn count_records(counts: &mut [u32], n: u8) {
 }
 
 fn print_pairs_of(n: u8) {
-    let mut counts = [0u32; 8];
+    let mut counts = [0u32; 9];
     count_pairs(&mut counts, n);
     print_number(n as u64);
     print_list(&counts);
@@ -168,7 +170,9 @@ fn print_pairs_of(n: u8) {
 }
 
 fn print_pairs() {
-    print(b"n, then of all 65536 pairs: refused, marks 1 to 5, usable, given back by encode\n");
+    print(
+        b"n, then of all 65536 pairs: refused, marks 1 to 5, alarms, usable, given back by encode\n",
+    );
     let mut n: u8 = 0;
     while n < 16 {
         print_pairs_of(n);

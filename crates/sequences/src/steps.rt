@@ -154,6 +154,21 @@ fn print_not_stays() {
     receive(s, 0xC1, 0x18, &[0, 2, 2, 0]);
 }
 
+// Line bits 111 (02, c), beside bit 5 at 0 and other line bits; then with commands, and with a condition above 2.
+fn print_alarm() {
+    let s = title(b"line bits 111", 2, 0, 3);
+    let s = receive(s, 0x00, 0x08, &[0, 0, 1]);
+    let s = receive(s, 0x22, 0x2F, &[0, 0, 1]);
+    let s = receive(s, 0x22, 0x28, &[0, 0, 1]);
+    let s = receive(s, 0x22, 0x27, &[0, 0, 1]);
+    receive(s, 0x22, 0x2D, &[0, 0, 1]);
+    let s = title(b"line bits 111 and commands", 2, 0, 3);
+    let s = command(s, 0xA1, 0x1F, &[0, 0, 0], 3, 1);
+    let s = command(s, 0xA1, 0x1F, &[0, 0, 0], 2, 0);
+    let s = receive(s, 0xA1, 0x1F, &[3, 0, 0]);
+    command(s, 0xA1, 0x18, &[0, 0, 0], 1, 0);
+}
+
 fn print_no_wait() {
     let s = p2_p3(title(b"no wait", 2, 0, 0));
     receive(s, 0x22, 0x28, &[0, 0, 0]);
@@ -222,6 +237,7 @@ pub(crate) fn print_sequences() {
     print_p13();
     print_stays();
     print_not_stays();
+    print_alarm();
     print_no_wait();
     print_channel_14();
     print_commands();

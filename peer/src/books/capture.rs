@@ -1,5 +1,6 @@
 //! Captures, and the books they are bound into.
 
+use super::pairs::UNUSABLE;
 use crate::book::{self, MOST_BYTES, MOST_ENTRIES};
 use crate::controller::{self, Record};
 use crate::judge::Row;
@@ -19,6 +20,22 @@ impl Settings {
     /// For settings that are good.
     pub fn fresh(self) -> Record {
         controller::fresh(self.n, self.mask, self.w).expect("settings within the paper's bounds")
+    }
+
+    /// A step that shows which pair is the accepted one: no other comes, no command is
+    /// up, there is nothing to wait for, and at most that section has failed.
+    pub fn shown(self, accepted: [u8; 2], failed: Option<u8>) -> Row {
+        let record = Record {
+            accepted,
+            ..self.fresh()
+        };
+        let mut conditions = vec![0; usize::from(self.n) + 1];
+        if let Some(section) = failed {
+            conditions[usize::from(section)] = 2;
+        }
+        let [k1, k2] = UNUSABLE;
+        let answer = controller::step(record, k1, k2, &conditions, 0, 0);
+        row(UNUSABLE, [answer.k1, answer.k2])
     }
 }
 

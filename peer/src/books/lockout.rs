@@ -7,9 +7,8 @@
 
 use super::capture::{row, Capture, Settings, Told};
 use super::changes;
-use super::pairs::{said, IDLE, LOCKOUT, UNUSABLE};
+use super::pairs::{self, said, IDLE, LOCKOUT, UNUSABLE};
 use super::runs::{self, LOCKED};
-use crate::controller::{self, Record};
 use crate::draws::Draws;
 use crate::judge::Row;
 use crate::pair::Request;
@@ -66,23 +65,13 @@ fn scenes() -> Vec<Scene> {
 
 fn scenes_of(settings: Settings) -> impl Iterator<Item = Scene> {
     let n = settings.n;
-    let received = [
-        said(Request::ManualSwitch, n, 0),
-        said(Request::ForcedSwitch, n, n),
-        said(Request::SignalFailHigh, n, 0),
-        said(Request::SignalDegradeLow, n, n),
-        said(Request::WaitToRestore, n, n),
-        said(Request::Reverse, n, n),
-        said(Request::Lockout, 0, 0),
-        said(Request::SignalFailHigh, 0, 0),
-    ];
     let scene = move |(number, received)| Scene {
         settings,
         received,
         covered: number % (MOST_COVERED + 1),
         failed: None,
     };
-    let quiet = received.into_iter().enumerate().map(scene);
+    let quiet = pairs::telling(n).into_iter().enumerate().map(scene);
     quiet.flat_map(move |scene| {
         let failing = Scene {
             failed: Some(n),
@@ -96,18 +85,7 @@ fn scenes_of(settings: Settings) -> impl Iterator<Item = Scene> {
 impl Scene {
     /// What is sent when LO is cleared, if that pair is the accepted one.
     fn shown(&self, accepted: [u8; 2]) -> Row {
-        let record = Record {
-            accepted,
-            sent: LOCKOUT[0],
-            ..self.settings.fresh()
-        };
-        let mut conditions = vec![0; usize::from(self.settings.n) + 1];
-        if let Some(section) = self.failed {
-            conditions[usize::from(section)] = 2;
-        }
-        let [k1, k2] = UNUSABLE;
-        let answer = controller::step(record, k1, k2, &conditions, 1, 0);
-        row(UNUSABLE, [answer.k1, answer.k2])
+        self.settings.shown(accepted, self.failed)
     }
 
     /// The ways this may go on, and what is wrong with each.

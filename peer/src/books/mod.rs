@@ -2,6 +2,7 @@
 //! of them, and what it prints is compared byte for byte with the table that this
 //! reading prints.
 
+mod alarms;
 pub mod capture;
 pub mod changes;
 mod commands;
@@ -49,7 +50,7 @@ const BOTH: &[Kind] = &[Kind::Explained, Kind::Unexplained];
 const ALL_OF_CAPTURES: &[Kind] = &[Kind::Explained, Kind::Unexplained, Kind::Refused];
 
 /// In the order in which they are reported.
-const GROUPS: [Group; 11] = [
+const GROUPS: [Group; 12] = [
     group("runs", EXPLAINED, || bind(&runs::captures())),
     group("flipped", BOTH, || bind(&changes::flipped())),
     group("cut", BOTH, || bind(&changes::cut())),
@@ -57,6 +58,7 @@ const GROUPS: [Group; 11] = [
     group("replaced", BOTH, || bind(&changes::replaced())),
     group("settings", ALL_OF_CAPTURES, || bind(&changes::resettled())),
     group("lockout", BOTH, || bind(&lockout::captures())),
+    group("alarms", BOTH, || bind(&alarms::captures())),
     group("waits", BOTH, || bind(&waits::captures())),
     group("commands", BOTH, || bind(&commands::captures())),
     group("steps", BOTH, || bind(&steps::captures())),
@@ -119,7 +121,7 @@ mod tests {
     }
 
     /// On those that brute force is quick with. Here are the captures that are made
-    /// to be hard: LO over a failed section 0, waits, commands in turn.
+    /// to be hard: LO over a failed section 0, alarms, waits, commands in turn.
     #[test]
     fn the_judges_agree_on_short_captures() {
         let mut captures = 0;

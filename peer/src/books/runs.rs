@@ -8,6 +8,7 @@ use crate::controller::{self, Record};
 use crate::draws::Draws;
 use crate::judge::Row;
 use crate::pair::Request;
+use std::convert::identity;
 use std::iter::repeat_n;
 
 const SEED: u64 = 1;
@@ -38,10 +39,19 @@ pub struct Habit {
     lockout: u16,
     switch: u16,
     unusable: u16,
+    /// What is received is an alarm.
+    alarm: u16,
     /// Section 0 fails, whatever the other conditions are.
     dark: u16,
     /// Where conditions would last or be good again, one more joins them.
     crowded: bool,
+}
+
+impl Habit {
+    /// With an alarm in one received pair of eight (02, c).
+    pub const fn with_alarms(self) -> Self {
+        Self { alarm: 2, ..self }
+    }
 }
 
 pub const COMMON: Habit = Habit {
@@ -49,6 +59,7 @@ pub const COMMON: Habit = Habit {
     lockout: 1,
     switch: 3,
     unusable: 4,
+    alarm: 0,
     dark: 0,
     crowded: false,
 };
@@ -59,6 +70,7 @@ pub const LOCKED: Habit = Habit {
     lockout: 7,
     switch: 1,
     unusable: 11,
+    alarm: 0,
     dark: 5,
     crowded: false,
 };
@@ -92,8 +104,20 @@ pub fn draw_of_any_settings(draws: &mut Draws, habit: Habit, steps: usize) -> Ca
 }
 
 pub fn draw(draws: &mut Draws, habit: Habit, settings: Settings, steps: usize) -> Capture {
+    draw_going_deaf(draws, habit, settings, [steps, 0])
+}
+
+/// After the first of these steps come others, in which the line goes on as if no alarm
+/// had come (02, c). They need not have an explanation.
+pub fn draw_going_deaf(
+    draws: &mut Draws,
+    habit: Habit,
+    settings: Settings,
+    [steps, deaf]: [usize; 2],
+) -> Capture {
     let mut run = Run::new(draws, habit, settings);
-    let rows: Vec<Row> = (0..steps).map(|_| run.step()).collect();
+    let mut rows: Vec<Row> = (0..steps).map(|_| run.step(identity)).collect();
+    rows.extend((0..deaf).map(|_| run.step(pairs::unheard)));
     Capture::new(settings, rows)
 }
 
@@ -148,13 +172,14 @@ impl<'a> Run<'a> {
         }
     }
 
-    fn step(&mut self) -> Row {
+    /// The controller is handed what `hears` makes of the received pair.
+    fn step(&mut self, hears: impl Fn([u8; 2]) -> [u8; 2]) -> Row {
         let Given {
             received,
             command,
             channel,
         } = self.draw();
-        let [k1, k2] = received;
+        let [k1, k2] = hears(received);
         let answer = controller::step(self.record, k1, k2, &self.conditions, command, channel);
         self.record = answer.record;
         row(received, [answer.k1, answer.k2])
@@ -163,8 +188,15 @@ impl<'a> Run<'a> {
     /// Mostly what an end at the other side could say to what was sent last.
     fn draw_received(&mut self) -> [u8; 2] {
         let Record { n, sent, .. } = self.record;
-        if self.draws.below(16) < self.habit.unusable {
+        let Habit {
+            unusable, alarm, ..
+        } = self.habit;
+        let drawn = self.draws.below(16);
+        if drawn < unusable {
             return pairs::draw_unusable(self.draws, n);
+        }
+        if drawn < unusable + alarm {
+            return pairs::draw_alarm(self.draws, n);
         }
         let answered = channel_of(sent);
         match self.draws.below(8) {

@@ -2,7 +2,7 @@
 //! broken off, started anew, and where none can be.
 
 use super::capture::{row, Capture, Settings, Told};
-use super::pairs::{degrade, fail, said, IDLE, LOCKOUT};
+use super::pairs::{alarmed, degrade, fail, said, FAILED, IDLE, LOCKOUT};
 use crate::judge::Row;
 use crate::pair::Request;
 
@@ -123,6 +123,8 @@ impl Section {
         let other = if self.channel > 1 { 1 } else { 2 };
         let of_other = row(IDLE, said(Request::WaitToRestore, other, 0));
         let locked = row(LOCKOUT, said(Request::Reverse, 0, 0));
+        let [k1, k2, waiting @ ..] = wait;
+        let alarm = alarmed([k1, k2]);
         vec![
             (vec![], None),
             // Before its end a wait is left by a clear.
@@ -132,6 +134,10 @@ impl Section {
             (vec![manual, wait], Some(1)),
             (vec![locked, wait], Some(1)),
             (vec![locked, nothing], None),
+            // Nor does a wait outlast an alarm (02, c).
+            (vec![row(alarm, waiting)], Some(0)),
+            (vec![row(alarm, FAILED), wait], Some(1)),
+            (vec![row(alarm, FAILED), nothing], None),
             ([&[degraded], &waited[..], &[nothing]].concat(), None),
             (
                 [&[degraded, wait], &waited[..]].concat(),
@@ -183,14 +189,14 @@ mod tests {
     }
 
     /// Counted by hand. The five waits have 16 lengths, of which 6 are too long,
-    /// and half of the ten endings are wrong behind the others.
+    /// and 7 of the 13 endings are wrong behind the others.
     #[test]
     fn both_verdicts_are_known_of_many() {
         let (sizes, faults) = (4, 2);
         let others = sizes * 5 * 8;
         let told = told();
-        assert_eq!(told.len(), sizes * faults * 16 * 10 + others + 4 * 2);
+        assert_eq!(told.len(), sizes * faults * 16 * 13 + others + 4 * 2);
         let wrong = told.iter().filter(|told| told.wrong.is_some()).count();
-        assert_eq!(wrong, sizes * faults * (6 * 10 + 10 * 5) + others + 4);
+        assert_eq!(wrong, sizes * faults * (6 * 13 + 10 * 7) + others + 4);
     }
 }

@@ -10,7 +10,7 @@ use crate::books::runs::{self, COMMON, LOCKED};
 use crate::books::{changes, pairs};
 use crate::door::{verdict_bytes, Door, VERDICT};
 use crate::draws::{Bits, Draws};
-use crate::judge::judge;
+use crate::judge::{judge, Row};
 
 pub const PARTS: usize = 200;
 const CAPTURES: usize = 1_000;
@@ -24,15 +24,21 @@ const MOST_STEPS: usize = 12;
 const MOST_SECTIONS: u8 = 3;
 const ONCE_IN_LARGER: u32 = 20;
 
-pub const KINDS: [&str; 5] = [
+pub const KINDS: [&str; 7] = [
     "refused",
     "explained",
     "unexplained",
     "of 16,384 steps",
     "by brute force too",
+    "explained with alarms",
+    "unexplained at an alarm",
 ];
+const EXPLAINED: u8 = 1;
+const UNEXPLAINED: u8 = 2;
 const LONG: usize = 3;
 const BY_BRUTE_FORCE: usize = 4;
+const EXPLAINED_WITH_ALARMS: usize = 5;
+const UNEXPLAINED_AT_AN_ALARM: usize = 6;
 
 #[derive(Clone, PartialEq)]
 struct JudgeMemory {
@@ -78,11 +84,7 @@ fn compare_one(
     let given = || format!("n {n}, mask {mask:04X}, W {w}, {} bytes", capture.len());
     tally.add(&both, given);
     let judged = (both.peer.refusal, both.peer.memory.out.bytes);
-    let [kind, ..] = judged.1;
-    tally.count(kind.into());
-    if capture.len() == MOST_BYTES {
-        tally.count(LONG);
-    }
+    count(judged.1, capture, tally);
     let is_short = capture.len() <= MOST_STEPS * STEP_BYTES;
     if is_short && (n <= MOST_SECTIONS || bits.once_in(ONCE_IN_LARGER)) {
         tally.count(BY_BRUTE_FORCE);
@@ -93,9 +95,25 @@ fn compare_one(
     }
 }
 
+fn count([kind, high, low]: [u8; VERDICT], capture: &[u8], tally: &mut Tally) {
+    tally.count(kind.into());
+    if capture.len() == MOST_BYTES {
+        tally.count(LONG);
+    }
+    let (rows, _) = capture.as_chunks();
+    let step = usize::from(u16::from_be_bytes([high, low]));
+    let has_alarm = |&[k1, k2, ..]: &Row| pairs::is_alarm([k1, k2]);
+    if kind == EXPLAINED && rows.iter().any(has_alarm) {
+        tally.count(EXPLAINED_WITH_ALARMS);
+    }
+    if kind == UNEXPLAINED && rows.get(step).is_some_and(has_alarm) {
+        tally.count(UNEXPLAINED_AT_AN_ALARM);
+    }
+}
+
 fn draw(bits: &mut Bits, draws: &mut Draws) -> (Settings, Vec<u8>) {
     let steps = bits.place(SHORT_BELOW);
-    let habit = bits.pick(&[COMMON, COMMON, LOCKED]);
+    let habit = bits.pick(&[COMMON, COMMON, LOCKED]).with_alarms();
     let mut run = runs::draw_of_any_settings(draws, habit, steps);
     match bits.below(16) {
         0..6 => {}
@@ -128,7 +146,11 @@ fn change(bits: &mut Bits, draws: &mut Draws, run: &mut Capture) {
 }
 
 fn draw_row(draws: &mut Draws, n: u8) -> [u8; STEP_BYTES] {
-    let [k1, k2] = pairs::draw_usable(draws, n);
+    let [k1, k2] = if draws.once_in(8) {
+        pairs::draw_alarm(draws, n)
+    } else {
+        pairs::draw_usable(draws, n)
+    };
     let [sent, sent_k2] = pairs::draw_sendable(draws, n);
     [k1, k2, sent, sent_k2]
 }
@@ -159,7 +181,7 @@ fn draw_refused(bits: &mut Bits, run: Capture) -> (Settings, Vec<u8>) {
 
 /// As long as can be; half of them with something wrong, often near the end.
 fn draw_long(bits: &mut Bits, draws: &mut Draws) -> (Settings, Vec<u8>) {
-    let mut run = runs::draw_of_any_settings(draws, COMMON, LONGEST);
+    let mut run = runs::draw_of_any_settings(draws, COMMON.with_alarms(), LONGEST);
     if bits.once_in(2) {
         let last = bits.pick(&[1, 10, LONGEST]);
         let step = LONGEST - 1 - bits.place(last);

@@ -12,8 +12,11 @@ const SIZES: [u8; 6] = [0, 1, 2, 13, 14, 15];
 pub const PARTS_BY_SIZE: usize = 256;
 pub const PARTS_BY_CODE: usize = SIZES.len() * 256;
 
-/// Kinds of the decoder: its marks.
-pub const MARKS: [&str; 6] = ["usable", "mark 1", "mark 2", "mark 3", "mark 4", "mark 5"];
+/// Kinds of the decoder: its marks, and the alarm behind them (02, c).
+pub const DECODED_KINDS: [&str; 7] = [
+    "usable", "mark 1", "mark 2", "mark 3", "mark 4", "mark 5", "alarm",
+];
+const ALARM: usize = 6;
 
 /// Every mask for the size of the part, with a drawn wait.
 pub fn fresh(library: &dyn Door, part: usize) -> Tally {
@@ -43,7 +46,8 @@ pub fn decode(library: &dyn Door, part: usize) -> Tally {
         });
         tally.add(&both, || format!("n {n}, pair {k1:02X} {k2:02X}"));
         if both.peer.refusal == 0 {
-            tally.count(both.peer.memory.bytes[0].into());
+            let [mark, .., alarm] = both.peer.memory.bytes;
+            tally.count(if alarm == 1 { ALARM } else { mark.into() });
         }
     }
     tally

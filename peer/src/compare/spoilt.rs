@@ -2,6 +2,7 @@
 //! of all cases, so that every refusal of a step comes up.
 
 use super::handed::{Handed, MOST_CONDITIONS};
+use crate::books::pairs::alarmed;
 use crate::controller::Record;
 use crate::door::{record_bytes, RECORD};
 use crate::draws::Bits;
@@ -45,11 +46,7 @@ fn draw_sound(bits: &mut Bits) -> Drawn {
     let n = 1 + bits.byte_below(14);
     let mask = bits.draw() as u16 & ((1 << n) - 1);
     let record = draw_record(bits, n, mask);
-    let received = if bits.once_in(4) {
-        bits.array()
-    } else {
-        draw_pair(bits, n, bits_of_priorities(mask))
-    };
+    let received = draw_received(bits, n, mask);
     let command = bits.pick(&[0, 0, 1, 2, 3, 4]);
     let channel = if command > 2 {
         1 + bits.byte_below(n)
@@ -63,6 +60,21 @@ fn draw_sound(bits: &mut Bits) -> Drawn {
         channel,
     };
     (record_bytes(&record), draw_conditions(bits), handed)
+}
+
+/// Mostly usable, and in one of eight an alarm, which the rest of the pair does not
+/// bear on (02, c).
+fn draw_received(bits: &mut Bits, n: u8, mask: u16) -> [u8; 2] {
+    let received = if bits.once_in(4) {
+        bits.array()
+    } else {
+        draw_pair(bits, n, bits_of_priorities(mask))
+    };
+    if bits.once_in(8) {
+        alarmed(received)
+    } else {
+        received
+    }
 }
 
 /// Mostly good, so that commands and waits are not always outranked.

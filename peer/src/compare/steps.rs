@@ -5,6 +5,7 @@ use super::handed::{Handed, MOST_CONDITIONS};
 use super::lent::{Lent, Memory, Part};
 use super::spoilt;
 use super::tally::{both, hex, Both, Tally};
+use crate::books::pairs;
 use crate::books::runs::{self, Given, Run, COMMON, LOCKED};
 use crate::door::{record_bytes, record_of, Door, RECORD, STEP};
 use crate::draws::Bits;
@@ -14,11 +15,16 @@ const DRAWN_STEPS: usize = 50_000;
 const WALKS: usize = 250;
 const STEPS_OF_A_WALK: usize = 200;
 
-/// Kinds of the walks: the codes of what was sent.
-pub const SENT: [&str; 16] = [
+/// Kinds of the drawn steps that are not refused: those that received an alarm (02, c).
+pub const DRAWN_KINDS: [&str; 1] = ["alarm"];
+const DRAWN_ALARM: usize = 0;
+
+/// Kinds of the walks: the codes of what was sent, and an alarm that was received.
+pub const WALKED_KINDS: [&str; 17] = [
     "NR", "", "RR", "", "", "", "WTR", "", "MS", "", "SD low", "SD high", "SF low", "SF high",
-    "FS", "LO",
+    "FS", "LO", "alarm",
 ];
+const WALKED_ALARM: usize = 16;
 
 /// The conditions are the first of those bytes: the others are one guard more.
 #[derive(Clone, PartialEq)]
@@ -48,7 +54,10 @@ pub fn drawn(library: &dyn Door, part: usize) -> Tally {
             conditions: Lent::new(&mut bits, conditions),
             out: Lent::drawn(&mut bits),
         };
-        step(library, &memory, handed, &mut tally);
+        let both = step(library, &memory, handed, &mut tally);
+        if both.peer.refusal == 0 && pairs::is_alarm(handed.received) {
+            tally.count(DRAWN_ALARM);
+        }
     }
     tally
 }
@@ -60,7 +69,7 @@ pub fn walks(library: &dyn Door, part: usize) -> Tally {
     for walk in 0..WALKS {
         let settings = runs::draw_settings(&mut draws);
         let habit = if walk % 3 == 0 { LOCKED } else { COMMON };
-        let run = Run::new(&mut draws, habit, settings);
+        let run = Run::new(&mut draws, habit.with_alarms(), settings);
         go(library, &mut bits, run, &mut tally);
     }
     tally
@@ -78,6 +87,9 @@ fn go(library: &dyn Door, bits: &mut Bits, mut run: Run, tally: &mut Tally) {
             return;
         }
         tally.count((answered[RECORD + 1] >> 4).into());
+        if pairs::is_alarm(handed.received) {
+            tally.count(WALKED_ALARM);
+        }
         run.record = record_of(answered[1..].first_chunk().expect("a record"));
     }
 }

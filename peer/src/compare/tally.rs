@@ -7,7 +7,7 @@ use std::hint::black_box;
 
 /// One more than the greatest refusal.
 pub const REFUSALS: usize = 31;
-pub const MOST_KINDS: usize = 16;
+pub const MOST_KINDS: usize = 17;
 /// Differences of one part that are told in full.
 const MOST_TOLD: usize = 3;
 /// Bytes of a part of memory that are told.

@@ -1,13 +1,36 @@
 use super::*;
+use crate::book::STEP_BYTES;
+use crate::books::pairs::unheard;
 use crate::door::{Peer, CONTENTS, DECODED, ENCODED, RECORD, SIZE, STEP, VERDICT};
 use std::io::Write;
 
-/// This reading in the place of the library, with one function that is wrong.
+/// This reading in the place of the library, with one function that is wrong, or with
+/// no notion of alarms.
 struct Fake {
     wrong: &'static str,
 }
 
+/// A library that is as it was before 02, c.
+const DEAF: Fake = Fake { wrong: "alarms" };
+
 impl Fake {
+    fn hear(&self, received: [u8; 2]) -> [u8; 2] {
+        if self.wrong == DEAF.wrong {
+            unheard(received)
+        } else {
+            received
+        }
+    }
+
+    fn hear_all(&self, capture: &[u8]) -> Vec<u8> {
+        let mut heard = capture.to_vec();
+        let (rows, _) = heard.as_chunks_mut::<STEP_BYTES>();
+        for [k1, k2, ..] in rows {
+            [*k1, *k2] = self.hear([*k1, *k2]);
+        }
+        heard
+    }
+
     /// Changes the last byte of an output where the fault is in that function.
     fn spoil(&self, name: &str, out: &mut [u8]) {
         if let (true, Some(last)) = (self.wrong == name, out.last_mut()) {
@@ -24,6 +47,7 @@ impl Door for Fake {
     }
 
     fn decode(&self, n: u8, k1: u8, k2: u8, out: &mut [u8; DECODED]) -> u8 {
+        let [k1, k2] = self.hear([k1, k2]);
         let refusal = Peer.decode(n, k1, k2, out);
         self.spoil("decode", out);
         refusal
@@ -52,13 +76,14 @@ impl Door for Fake {
         channel: u8,
         out: &mut [u8; STEP],
     ) -> u8 {
-        let refusal = Peer.step(record, received, conditions, command, channel, out);
+        let heard = self.hear(received);
+        let refusal = Peer.step(record, heard, conditions, command, channel, out);
         self.spoil("step", out);
         refusal
     }
 
     fn judge(&self, n: u8, mask: u16, wait: u16, capture: &[u8], out: &mut [u8; VERDICT]) -> u8 {
-        let refusal = Peer.judge(n, mask, wait, capture, out);
+        let refusal = Peer.judge(n, mask, wait, &self.hear_all(capture), out);
         self.spoil("judge", out);
         refusal
     }
@@ -83,14 +108,17 @@ impl Door for Fake {
     }
 }
 
-/// One part of the subject that is named so first.
-fn part_of(subject: &str, library: &dyn Door) -> Tally {
-    let subject = SUBJECTS
+/// The subject that is named so first.
+fn subject(name: &str) -> &'static Subject {
+    SUBJECTS
         .iter()
-        .find(|candidate| candidate.name.starts_with(subject))
-        .expect("a subject of that name");
-    // A part with a group that is not refused.
-    (subject.compare)(library, 2)
+        .find(|candidate| candidate.name.starts_with(name))
+        .expect("a subject of that name")
+}
+
+/// One part of it, with a group that is not refused.
+fn part_of(name: &str, library: &dyn Door) -> Tally {
+    (subject(name).compare)(library, 2)
 }
 
 #[test]
@@ -112,6 +140,43 @@ fn what_is_not_wrong_has_no_differences() {
         assert!(tally.calls >= 1_000, "{name}: {}", tally.calls);
         assert_eq!(tally.differences, 0, "{name}");
     }
+}
+
+/// The subjects in which pairs are received.
+const RECEIVING: [&str; 4] = ["decode", "step, drawn", "step, walks", "judge"];
+
+#[test]
+fn a_library_that_hears_no_alarms_is_noticed() {
+    for name in RECEIVING {
+        let tally = part_of(name, &DEAF);
+        assert!(tally.differences > 0 && !tally.told.is_empty(), "{name}");
+    }
+}
+
+/// So that a comparison which comes by none does not pass.
+#[test]
+fn alarms_are_kinds_of_their_own() {
+    for name in RECEIVING {
+        let tally = part_of(name, &Peer);
+        let kinds = subject(name).kinds.iter().zip(tally.kinds);
+        let alarms: Vec<u64> = kinds
+            .filter(|(kind, _)| kind.contains("alarm"))
+            .map(|(_, count)| count)
+            .collect();
+        assert!(!alarms.is_empty(), "{name}");
+        assert!(alarms.iter().all(|&count| count >= 20), "{name} {alarms:?}");
+    }
+}
+
+/// All pairs have one of sixteen; where pairs are drawn it is one of eight, and a few
+/// more where any bytes are.
+#[test]
+fn alarms_are_as_frequent_as_is_meant() {
+    let [decoded, drawn, walked, _] = RECEIVING.map(|name| part_of(name, &Peer));
+    assert_eq!(decoded.kinds[6], decoded.calls / 16);
+    let eighth = |steps: u64| steps / 9..steps / 7;
+    assert!(eighth(drawn.refusals[0]).contains(&drawn.kinds[0]));
+    assert!(eighth(walked.calls).contains(&walked.kinds[16]));
 }
 
 /// Two steps for each walk are not counted as two walks.

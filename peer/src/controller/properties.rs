@@ -1,8 +1,9 @@
 //! What holds of every step in a group of two sections: all records that are not
-//! refused, all conditions and commands, all usable pairs. What is said of ties
-//! holds of drawn walks as well, in groups of every size.
+//! refused, all conditions and commands, all usable pairs. What is said of ties and of
+//! alarms holds of drawn walks as well, in groups of every size.
 
 use super::*;
+use crate::books::pairs::{alarmed, is_alarm};
 use crate::books::runs::{self, Given, Run, COMMON, CROWDED};
 use crate::draws::Draws;
 use crate::pair::{decode, rank, Received};
@@ -56,7 +57,13 @@ impl<'a> Taken<'a> {
     /// The K1 that each bad section asks for.
     fn faults(&self) -> impl Iterator<Item = u8> + '_ {
         let priorities = self.record.mask << 1 | 1;
+        let is_dark = is_alarm(self.received);
         let ask = move |(section, &condition): (u8, &u8)| {
+            let condition = if is_dark && section == 0 {
+                2
+            } else {
+                condition
+            };
             let code = match (condition, priorities >> section & 1) {
                 (0, _) => return None,
                 (1, 0) => 0xA,
@@ -96,7 +103,7 @@ fn records() -> impl Iterator<Item = Record> {
         .filter(|&record| can_be_followed(record))
 }
 
-/// Line bits are left out: they bear on nothing but the record.
+/// Line bits are left out: those of a usable pair bear on nothing but the record.
 fn pairs() -> Vec<[u8; 2]> {
     (0..=255)
         .flat_map(|k1| [0x08, 0x18, 0x28].map(|k2| [k1, k2]))
@@ -118,11 +125,16 @@ fn for_all_steps(mut see: impl FnMut(&Taken)) {
     }
 }
 
-/// In groups of any size, from fresh records on.
+/// In groups of any size, from fresh records on; with alarms in half of the walks.
 fn for_drawn_steps(mut see: impl FnMut(&Taken)) {
     let mut draws = Draws::from_seed(51);
     for walk in 0..WALKS {
         let habit = if walk % 2 == 0 { CROWDED } else { COMMON };
+        let habit = if walk % 4 < 2 {
+            habit
+        } else {
+            habit.with_alarms()
+        };
         let settings = runs::draw_settings(&mut draws);
         let mut run = Run::new(&mut draws, habit, settings);
         for _ in 0..STEPS_OF_A_WALK {
@@ -250,6 +262,31 @@ fn an_unusable_pair_is_the_accepted_one_over_again() {
         };
         assert_eq!(again.answer, expected);
     });
+}
+
+/// The same step with an alarm is the step with section 0 failed, whatever was handed
+/// in of that section and whatever else is received (02, c).
+fn assert_an_alarm_is_a_failure(taken: &Taken) {
+    let [_, sections @ ..] = taken.conditions else {
+        panic!("a section 0");
+    };
+    let failed = [&[2], sections].concat();
+    let with =
+        |received, conditions| Taken::new(taken.record, received, conditions, taken.command).answer;
+    let alarm = with(alarmed(taken.received), taken.conditions);
+    assert_eq!(alarm, with(taken.received, &failed), "{:?}", taken.record);
+    assert_eq!((alarm.refusal, alarm.mark, alarm.bridge), (0, 0, 0));
+    assert_eq!((alarm.record.accepted, alarm.k2), ([0x00, 0x08], 0x08));
+    assert!([0xD0, 0xF0].contains(&alarm.k1), "{:02X}", alarm.k1);
+    let beyond = [&[3], sections].concat();
+    let refused = with(alarmed(taken.received), &beyond);
+    assert_eq!(refused, Answer::refused(Refusal::Condition, taken.record));
+}
+
+#[test]
+fn an_alarm_is_a_failure_of_section_0_in_every_step() {
+    for_all_steps(assert_an_alarm_is_a_failure);
+    for_drawn_steps(assert_an_alarm_is_a_failure);
 }
 
 /// How often what came first was still the best that this end could ask for, and in

@@ -1,3 +1,4 @@
+mod alarm;
 mod first_come;
 
 use super::*;
@@ -354,8 +355,11 @@ fn the_first_fault_is_refused() {
     for ((record, conditions, command, channel), refusal) in
         mended.into_iter().zip([1, 2, 3, 4, 5, 6, 7, 0])
     {
-        let answer = step(record, 0x00, 0x08, conditions, command, channel);
-        assert_eq!(answer.refusal, refusal);
+        // An alarm has no bearing on it (02, c).
+        for k2 in [0x08, 0x0F] {
+            let answer = step(record, 0x00, k2, conditions, command, channel);
+            assert_eq!(answer.refusal, refusal);
+        }
     }
 }
 
@@ -486,7 +490,8 @@ fn the_accepted_pair_is_a_usable_one() {
             ..start()
         };
         let usable = matches!(decode(2, k1, k2), Ok(Received::Usable(_)));
-        let answer = quiet(record, [0x00, 0x08], GOOD);
-        assert_eq!(answer.refusal, if usable { 0 } else { 3 });
+        let expected = if usable { 0 } else { 3 };
+        assert_eq!(quiet(record, [0x00, 0x08], GOOD).refusal, expected);
+        assert_eq!(quiet(record, [0x00, 0x0F], FAILED_0).refusal, expected);
     }
 }

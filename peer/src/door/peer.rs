@@ -138,8 +138,10 @@ fn received_bytes(received: Received) -> [u8; DECODED] {
             record.channel,
             record.bridged,
             u8::from(record.remote_defect),
+            0,
         ],
-        Received::Marked(mark) => [mark.number(), 0, 0, 0, 0],
+        Received::Alarm => [0, 0, 0, 0, 0, 1],
+        Received::Marked(mark) => [mark.number(), 0, 0, 0, 0, 0],
     }
 }
 

@@ -29,6 +29,22 @@ fn steps_of_the_paper_in_bytes() {
     assert_eq!(out[11..], [0xD0, 0x08, 0, 0, 0, 2]);
 }
 
+/// An alarm after P3, by the bytes of the door: the accepted pair is 00 08, and
+/// D0 08 is sent (02, c).
+#[test]
+fn a_step_with_an_alarm_in_bytes() {
+    let record = [2, 0, 0, 0, 3, 0x22, 0x28, 0xA2, 0, 0];
+    let mut out = [FILL; STEP];
+    assert_eq!(
+        Peer.step(&record, [0x22, 0x2F], &[0, 0, 1], 0, 0, &mut out),
+        0
+    );
+    let expected = [
+        0, 2, 0, 0, 0, 3, 0x00, 0x08, 0xD0, 0, 0, 0xD0, 0x08, 0, 0, 0, 0,
+    ];
+    assert_eq!(out, expected);
+}
+
 #[test]
 fn a_refused_step_answers_zeros_and_the_record_it_was_given() {
     let record: [u8; RECORD] = [15, 1, 2, 3, 4, 5, 6, 7, 8, 9];
@@ -60,13 +76,18 @@ fn a_refused_fresh_record_is_zeros() {
 }
 
 #[test]
-fn decoded_bytes_are_the_mark_or_the_record() {
+fn decoded_bytes_are_the_mark_the_record_or_the_alarm() {
     for (n, pair, refusal, expected) in [
-        (2, [0xA2, 0x1E], 0, [0, 0b1010, 2, 1, 1]),
-        (2, [0x00, 0x28], 0, [0, 0, 0, 2, 0]),
-        (2, [0x11, 0x08], 0, [3, 0, 0, 0, 0]),
-        (2, [0xA3, 0x08], 0, [4, 0, 0, 0, 0]),
-        (0, [0x00, 0x08], 1, [0; 5]),
+        (2, [0xA2, 0x1E], 0, [0, 0b1010, 2, 1, 1, 0]),
+        (2, [0x00, 0x28], 0, [0, 0, 0, 2, 0, 0]),
+        (2, [0x11, 0x08], 0, [3, 0, 0, 0, 0, 0]),
+        (2, [0xA3, 0x08], 0, [4, 0, 0, 0, 0, 0]),
+        (2, [0xA2, 0x1F], 0, [0, 0, 0, 0, 0, 1]),
+        (2, [0x11, 0xFF], 0, [0, 0, 0, 0, 0, 1]),
+        (2, [0xA2, 0x17], 0, [1, 0, 0, 0, 0, 0]),
+        (2, [0xA2, 0x1D], 0, [2, 0, 0, 0, 0, 0]),
+        (0, [0x00, 0x08], 1, [0; 6]),
+        (15, [0xA2, 0x1F], 1, [0; 6]),
     ] {
         let mut out = [FILL; DECODED];
         assert_eq!(Peer.decode(n, pair[0], pair[1], &mut out), refusal);

@@ -5,8 +5,9 @@
 //! What a step can send hangs on the record before it. The K1 last sent and the
 //! steps of wait left are seen in the capture. The accepted pair is not, but it is
 //! one of two: the last usable pair received, or 00 08 if section 0 has failed
-//! since (paper: "Errors a good reader makes", the second). So two flags hold all
-//! that is left of the explanations.
+//! since (paper: "Errors a good reader makes", the second). An alarm leaves the
+//! second alone (paper: 02, c). So two flags hold all that is left of the
+//! explanations.
 //!
 //! Conditions and commands are not tried. Any of them can come up in a step, and a
 //! clear drops the command held and the wait; so every request can be the local
@@ -17,10 +18,11 @@ use crate::controller::Record;
 use crate::pair::Request;
 use std::hint::select_unpredictable as choose;
 
-/// The last four bits of a K2: bit 5, then the line bits of a good line or those
-/// of a remote defect. Only the first are sent (rule 6).
+/// The last four bits of a K2: bit 5, then the line bits of a good line, those of a
+/// remote defect or those of an alarm. Only the first are sent (rule 6).
 const GOOD_LINE: u8 = 0b1000;
 const REMOTE_DEFECT: u8 = 0b1110;
+const ALARM: u8 = 0b1111;
 
 const FAIL_OF_PROTECTION: u16 = 0xD008;
 const LOCKOUT_OF_PROTECTION: u16 = 0xF008;
@@ -170,15 +172,17 @@ impl Line {
         self.kept | self.lost
     }
 
-    /// Rule 1, for a section 0 that has not failed.
+    /// Rule 1, for a section 0 that has not failed. After an alarm there is none: the
+    /// step is one of a failed section 0, or has no explanation (paper: 02, c).
     fn receive(&mut self, k1: u8, k2: u8) {
         let line = k2 & 0b1111;
+        let alarm = line == ALARM;
         let usable = ((line == GOOD_LINE) | (line == REMOTE_DEFECT))
             & (k2 >> 4 <= self.n)
             & self.usable.has(k1);
         self.received = choose(usable, k1, self.received);
-        self.kept |= usable;
-        self.lost &= !usable;
+        self.kept = (self.kept | usable) & !alarm;
+        self.lost &= !(usable | alarm);
     }
 
     /// Rules 4 and 6, with the received pair accepted.

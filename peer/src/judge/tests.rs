@@ -1,3 +1,4 @@
+mod alarms;
 mod ties;
 
 use super::*;
@@ -7,9 +8,12 @@ use std::collections::HashSet;
 use std::fs;
 use std::path::Path;
 
-/// The settings of the paper's sequences.
+/// With the settings of the paper's sequences, by both judges.
 fn judged(rows: &[Row]) -> Verdict {
-    judge(2, 0, 3, &rows.concat())
+    let verdict = judge(2, 0, 3, rows.as_flattened());
+    let scanned = scan::judge(2, 0, 3, rows.as_flattened());
+    assert_eq!(scanned, verdict, "{rows:02X?}");
+    verdict
 }
 
 fn assert_all_explained(rows: &[Row]) {

@@ -11,6 +11,9 @@ const GROUP_SIZES: RangeInclusive<u8> = 0..=15;
 /// Two past what a nibble holds, so that bytes no pair can carry are seen too.
 const FIELD_VALUES: RangeInclusive<u8> = 0..=17;
 
+/// What stands in a cell of the grids.
+const CELLS: &str = "rank, m and the mark, or al for an alarm";
+
 pub fn write(out: &mut impl Write) -> io::Result<()> {
     for n in [2, 14] {
         write_k1_grid(out, n)?;
@@ -26,18 +29,12 @@ pub fn write(out: &mut impl Write) -> io::Result<()> {
 }
 
 fn write_k1_grid(out: &mut impl Write, n: u8) -> io::Result<()> {
-    writeln!(
-        out,
-        "n = {n}: each K1, with K2 = 08: rank, or m and the mark"
-    )?;
+    writeln!(out, "n = {n}: each K1, with K2 = 08: {CELLS}")?;
     write_grid(out, |k1| cell(n, k1, 0x08))
 }
 
 fn write_k2_grid(out: &mut impl Write, n: u8) -> io::Result<()> {
-    writeln!(
-        out,
-        "n = {n}: each K2, with K1 = 00: rank, or m and the mark"
-    )?;
+    writeln!(out, "n = {n}: each K2, with K1 = 00: {CELLS}")?;
     write_grid(out, |k2| cell(n, 0x00, k2))
 }
 
@@ -60,6 +57,7 @@ fn write_grid(out: &mut impl Write, cell: impl Fn(u8) -> String) -> io::Result<(
 fn cell(n: u8, k1: u8, k2: u8) -> String {
     match decode(n, k1, k2) {
         Ok(Received::Usable(record)) => rank(record.code, record.channel).to_string(),
+        Ok(Received::Alarm) => "al".into(),
         Ok(Received::Marked(mark)) => format!("m{}", mark.number()),
         Err(refusal) => format!("r{}", refusal.number()),
     }
@@ -70,6 +68,7 @@ fn cell(n: u8, k1: u8, k2: u8) -> String {
 struct PairCounts {
     refused: u32,
     marked: [u32; 5],
+    alarms: u32,
     usable: u32,
     given_back: u32,
 }
@@ -83,6 +82,7 @@ impl PairCounts {
                     counts.usable += 1;
                     counts.given_back += u32::from(encode(n, record) == Ok([k1, k2]));
                 }
+                Ok(Received::Alarm) => counts.alarms += 1,
                 Ok(Received::Marked(mark)) => *counts.of_mark(mark) += 1,
                 Err(_) => counts.refused += 1,
             }
@@ -105,15 +105,21 @@ impl PairCounts {
 fn write_pair_counts(out: &mut impl Write) -> io::Result<()> {
     writeln!(
         out,
-        "n, then of all 65536 pairs: refused, marks 1 to 5, usable, given back by encode"
+        "n, then of all 65536 pairs: refused, marks 1 to 5, alarms, usable, given back by encode"
     )?;
     for n in GROUP_SIZES {
-        let counts = PairCounts::over_all_pairs(n);
-        write!(out, "{n} {}", counts.refused)?;
-        for marked in counts.marked {
-            write!(out, " {marked}")?;
+        let PairCounts {
+            refused,
+            marked,
+            alarms,
+            usable,
+            given_back,
+        } = PairCounts::over_all_pairs(n);
+        write!(out, "{n} {refused}")?;
+        for count in marked {
+            write!(out, " {count}")?;
         }
-        writeln!(out, " {} {}", counts.usable, counts.given_back)?;
+        writeln!(out, " {alarms} {usable} {given_back}")?;
     }
     Ok(())
 }
@@ -188,17 +194,47 @@ fn write_rank_sum(out: &mut impl Write) -> io::Result<()> {
 #[cfg(test)]
 mod tests {
     use super::*;
+    use crate::block::{printed, Block};
 
     #[test]
     fn every_pair_and_record_is_counted_once() {
         for n in GROUP_SIZES {
             let pairs = PairCounts::over_all_pairs(n);
             let marked: u32 = pairs.marked.iter().sum();
-            assert_eq!(pairs.refused + marked + pairs.usable, 65_536);
+            let stopped = pairs.refused + marked + pairs.alarms;
+            assert_eq!(stopped + pairs.usable, 65_536);
             let records = RecordCounts::over_small_records(n);
             let refused = records.sections_refused + records.record_refused;
             assert_eq!(refused + records.encoded, 11_664);
             assert_eq!(records.encoded, pairs.usable);
         }
+    }
+
+    /// By hand from 02, c: the line bits 111 of every bridge, and no other cells.
+    #[test]
+    fn an_alarm_has_cells_of_its_own() {
+        let cells = |grid: Block<Vec<u8>>| printed(grid).matches("  al").count();
+        assert_eq!(cells(|out| write_k1_grid(out, 2)), 0);
+        assert_eq!(cells(|out| write_k2_grid(out, 14)), 16);
+        let text = printed(|out| write_k2_grid(out, 2));
+        assert!(text.starts_with(
+            "n = 2: each K2, with K1 = 00: rank, m and the mark, or al for an alarm\n"
+        ));
+        let marks = "  m1".repeat(8);
+        assert!(text.contains(&format!("\n0x{marks}   0  m2  m2  m2  m2  m2   0  al\n")));
+        assert!(text.contains(&format!("\n3x{marks}  m5  m2  m2  m2  m2  m2  m5  al\n")));
+    }
+
+    /// Counted by hand for one section: half of the pairs have bit 5 as 0, and of the
+    /// other eight line bits five mean nothing and one is the alarm. Of the K1 then
+    /// 96 have no code and 160 - 13 no channel; of the bridges 14 are past the group.
+    #[test]
+    fn alarms_are_counted_between_the_marks_and_the_usable_pairs() {
+        let text = printed(write_pair_counts);
+        let line = [0, 8 * 16 * 256, 5 * 16 * 256, 2 * 16 * 96, 2 * 16 * 147]
+            .into_iter()
+            .chain([2 * 14 * 13, 16 * 256, 2 * 2 * 13, 2 * 2 * 13])
+            .fold("1".to_string(), |line, count| format!("{line} {count}"));
+        assert!(text.contains(&format!("\n{line}\n")), "{line}");
     }
 }

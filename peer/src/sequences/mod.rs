@@ -98,7 +98,7 @@ mod tests {
             .map(|block| block.lines().count())
             .collect();
         let pairs = [18, 18, 18, 18, 17, 17, 1];
-        let controller = [78, 19, 12, 10, 35, 8, 15];
+        let controller = [89, 19, 12, 10, 35, 8, 15];
         assert_eq!(blocks, [pairs, controller].concat());
     }
 }

@@ -53,7 +53,7 @@ const GOOD_OF_14: &[u8] = &section_14(0);
 const DEGRADED_14: &[u8] = &section_14(1);
 const FAILED_14: &[u8] = &section_14(2);
 
-const SEQUENCES: [Sequence; 18] = [
+const SEQUENCES: [Sequence; 20] = [
     of_two("P1", 0, 3, &[Given::new(0x00, 0x08, GOOD)]),
     of_two(
         "P2 P3 P8 P9",
@@ -158,6 +158,29 @@ const SEQUENCES: [Sequence; 18] = [
             Given::new(0x00, 0x08, &[0, 0, 2, 0]),
             Given::new(0xC1, 0x08, &[0, 2, 2, 0]),
             Given::new(0xC1, 0x18, &[0, 2, 2, 0]),
+        ],
+    ),
+    of_two(
+        "line bits 111",
+        0,
+        3,
+        &[
+            Given::new(0x00, 0x08, DEGRADED_2),
+            Given::new(0x22, 0x2F, DEGRADED_2),
+            Given::new(0x22, 0x28, DEGRADED_2),
+            Given::new(0x22, 0x27, DEGRADED_2),
+            Given::new(0x22, 0x2D, DEGRADED_2),
+        ],
+    ),
+    of_two(
+        "line bits 111 and commands",
+        0,
+        3,
+        &[
+            Given::new(0xA1, 0x1F, GOOD).commanded(3, 1),
+            Given::new(0xA1, 0x1F, GOOD).commanded(2, 0),
+            Given::new(0xA1, 0x1F, &[3, 0, 0]),
+            Given::new(0xA1, 0x18, GOOD).commanded(1, 0),
         ],
     ),
     of_two(
@@ -279,6 +302,7 @@ mod tests {
         let ended = "22 28 000 0 0: 0 00 28 2 0 0 0\n";
         assert!(text.contains(&[waiting, waiting, waiting, ended].concat()));
     }
+
     /// By hand from 02 d and rules 3 to 7.
     #[test]
     fn ties_are_decided_by_who_came_first() {
@@ -307,6 +331,28 @@ between the ends: n 3 mask 0 W 3
 00 08 0020 0 0: 0 C2 08 0 0 0 0
 C1 08 0220 0 0: 0 21 18 1 0 0 0
 C1 18 0220 0 0: 0 C1 18 1 1 0 0
+";
+        assert!(printed(write).contains(expected));
+    }
+
+    /// By hand from 02, c: what counts is that section 0 acts as failed, that it does
+    /// so for the step of the alarm alone, and that neither bit 5 as 0 nor other line
+    /// bits do the same.
+    #[test]
+    fn line_bits_111_stand_behind_the_ties() {
+        let expected = "\
+C1 18 0220 0 0: 0 C1 18 1 1 0 0
+line bits 111: n 2 mask 0 W 3
+00 08 001 0 0: 0 A2 08 0 0 0 0
+22 2F 001 0 0: 0 D0 08 0 0 0 0
+22 28 001 0 0: 0 A2 28 2 2 0 0
+22 27 001 0 0: 0 A2 28 2 2 1 0
+22 2D 001 0 0: 0 A2 28 2 2 2 0
+line bits 111 and commands: n 2 mask 0 W 3
+A1 1F 000 3 1: 0 D0 08 0 0 0 2
+A1 1F 000 2 0: 0 F0 08 0 0 0 1
+A1 1F 300 0 0: 5 00 00 0 0 0 0
+A1 18 000 1 0: 0 21 18 1 1 0 1
 no wait: n 2 mask 0 W 0
 ";
         assert!(printed(write).contains(expected));

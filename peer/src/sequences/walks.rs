@@ -41,8 +41,9 @@ impl Walk {
         see(given, &answer);
     }
 
-    /// Channels go one past the group, and the line bits are now and then ones
-    /// that mean nothing, so that every mark but that of bit 5 comes up.
+    /// Channels go one past the group, and the line bits are now and then those of a
+    /// remote defect or of an alarm, so that all comes up but the marks of bit 5 and
+    /// of line bits that mean nothing.
     fn draw_pair(&mut self) -> [u8; 2] {
         let past = self.record.n + 2;
         let code = self.draws.byte_below(16);
@@ -191,13 +192,17 @@ mod tests {
     #[test]
     fn the_walks_come_by_every_request_mark_and_fate() {
         let [mut codes, mut marks, mut fates] = [const { BTreeSet::new() }; 3];
-        over_all_walks(|_, _, answer| {
+        let mut alarms = 0;
+        over_all_walks(|before, given, answer| {
+            let [k1, k2] = given.received;
+            alarms += u32::from(decode(before.n, k1, k2) == Ok(Received::Alarm));
             codes.insert(answer.k1 >> 4);
             marks.insert(answer.mark);
             fates.insert(answer.fate);
         });
         assert!(codes.into_iter().eq([0, 2, 6, 8, 10, 11, 12, 13, 14, 15]));
-        assert!(marks.into_iter().eq([0, 2, 3, 4, 5]));
+        assert!(marks.into_iter().eq([0, 3, 4, 5]));
+        assert!((30_000..40_000).contains(&alarms), "{alarms}");
         assert!(fates.into_iter().eq([0, 1, 2]));
     }
 

@@ -74,8 +74,10 @@ fn refusals_are_those_of_the_other_judge() {
 }
 
 /// What is received in the steps of the captures that are tried in full.
-const RECEIVED: [[u8; 2]; 8] = [
+const RECEIVED: [[u8; 2]; 10] = [
     [0x00, 0x08],
+    [0x00, 0x0F],
+    [0x21, 0xFF],
     [0x11, 0x08],
     [0x21, 0x18],
     [0x81, 0x0E],
@@ -138,7 +140,8 @@ fn the_judges_agree_on_all_captures_of_two_steps() {
     }
 }
 
-/// Behind LO, where both pairs may be accepted, and behind a wait.
+/// Behind LO, where both pairs may be accepted, behind alarms, after which one of them
+/// is, and behind a wait.
 #[test]
 fn the_judges_agree_behind_longer_fronts() {
     let settings = Settings {
@@ -147,8 +150,10 @@ fn the_judges_agree_behind_longer_fronts() {
         w: 2,
     };
     let causes = causes(2);
-    let fronts: [&[Row]; 4] = [
+    let fronts: [&[Row]; 6] = [
         &[[0x81, 0x08, 0xF0, 0x08], [0x11, 0x08, 0xF0, 0x08]],
+        &[[0x81, 0x08, 0xF0, 0x08], [0x81, 0x0F, 0xF0, 0x08]],
+        &[[0x81, 0x08, 0x21, 0x18], [0x81, 0x0F, 0xD0, 0x08]],
         &[[0xC1, 0x08, 0xF0, 0x08], [0x11, 0x08, 0xD0, 0x08]],
         &[[0x00, 0x08, 0xC1, 0x08], [0x21, 0x18, 0x61, 0x18]],
         &[[0x00, 0x08, 0x81, 0x08], [0x21, 0x18, 0xE1, 0x18]],
@@ -173,6 +178,11 @@ fn the_judges_agree_on_drawn_captures() {
                 w: draws.below(4),
             };
             let habit = if round % 2 == 0 { COMMON } else { LOCKED };
+            let habit = if round % 4 < 2 {
+                habit
+            } else {
+                habit.with_alarms()
+            };
             let mut capture = runs::draw(&mut draws, habit, settings, 12);
             if round % 3 > 0 {
                 changes::replace(&mut draws, &mut capture);

@@ -127,11 +127,12 @@ fn records(n: u8, w: u16) -> impl Iterator<Item = Record> {
 }
 
 /// The pairs that may come to be accepted, but for their K2, which shows in nothing
-/// that is sent. An unusable pair is the accepted one over again.
-fn usable_pairs(n: u8) -> Vec<[u8; 2]> {
+/// that is sent; and an alarm. An unusable pair is the accepted one over again.
+fn received_pairs(n: u8) -> Vec<[u8; 2]> {
     (0..=255)
         .map(|k1| [k1, 0x08])
-        .filter(|&[k1, k2]| pair::read(n, k1, k2).is_ok())
+        .filter(|&[k1, k2]| pair::read(n, k1, k2).usable().is_some())
+        .chain([[0x00, 0x0F]])
         .collect()
 }
 
@@ -165,12 +166,13 @@ fn assert_same_outcomes(record: Record, received: [u8; 2], causes: &[Cause]) -> 
 /// was last sent is the fail or degrade of section 2. A degraded section 0 is left
 /// out of it if they have failed; four of the seven commands lose; and of the 21
 /// requests that may be accepted 15, 10, 17 or 12 do not go before both sections.
+/// An alarm goes before them all.
 #[test]
 fn by_either_rule_the_same_can_be_sent_next() {
     let mut otherwise = [0; 3];
     for (n, otherwise) in (1..).zip(&mut otherwise) {
         let causes = with_commands(n, &all_conditions(n));
-        let pairs = usable_pairs(n);
+        let pairs = received_pairs(n);
         for record in records(n, 0).chain(records(n, 2)) {
             for &received in &pairs {
                 *otherwise += assert_same_outcomes(record, received, &causes);
