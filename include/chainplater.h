@@ -39,7 +39,7 @@ extern "C" {
 #endif
 
 #define CHAINPLATER_RECORD 10
-#define CHAINPLATER_DECODED 5
+#define CHAINPLATER_DECODED 6
 #define CHAINPLATER_ENCODED 2
 #define CHAINPLATER_STEP 17
 #define CHAINPLATER_VERDICT 3
@@ -54,9 +54,12 @@ extern "C" {
 uint8_t chainplater_fresh(uint8_t n, uint16_t mask, uint16_t wait, uint8_t record[CHAINPLATER_RECORD]);
 
 /*
- * What a pair of bytes says on a line of n sections. Refusal 1.
- * out: 0 mark (0: the pair is usable; 1 to 5: why it is not), 1 request code, 2 channel, 3 bridged channel, 4 remote
- * defect (1 or 0). All but the mark is 0 where the pair is not usable; all is 0 where refused.
+ * What a pair of bytes says on a line of n sections: a request, if it is usable; or an alarm; or nothing, and its mark
+ * tells why. An alarm is a pair with bit 5 at 1 and line bits 111, whatever else it has: the multiplex section carries
+ * an alarm signal. It is not usable, and has no mark. Refusal 1.
+ * out: 0 mark (1 to 5; 0 where the pair is usable or an alarm), 1 request code, 2 channel, 3 bridged channel, 4 remote
+ * defect (1 or 0), 5 alarm (1 or 0). So a pair is usable if bytes 0 and 5 are 0. All but the mark or the alarm is 0
+ * where the pair is not usable; all is 0 where refused.
  */
 uint8_t chainplater_decode(uint8_t n, uint8_t k1, uint8_t k2, uint8_t out[CHAINPLATER_DECODED]);
 
@@ -72,7 +75,8 @@ uint8_t chainplater_encode(uint8_t n, uint8_t code, uint8_t channel, uint8_t bri
  * degraded, 2 failed; `count` is n + 1) and is given a command (0 none, 1 clear, 2 lockout, 3 forced switch, 4 manual
  * switch) for a channel (0 for the first three, 1 to n for the other two). Of sections that ask at equal rank section 0
  * comes first, then the one whose request the record has as last sent, then the lower one; against the accepted request
- * the lower channel wins. Refusals 1 to 7, in this order.
+ * the lower channel wins. Where the pair received is an alarm, the step acts as if section 0 had failed, whatever
+ * condition it was handed for it; the conditions are checked as they are handed in. Refusals 1 to 7, in this order.
  * out: 0 the refusal, 1 to 10 the record after the step, 11 K1 sent, 12 K2 sent, 13 channel bridged, 14 channel
  * selected, 15 mark of the received pair, 16 fate of the command (0 none was given, 1 taken, 2 denied). Where
  * refused: the refusal, the record as it was given, and zeros.

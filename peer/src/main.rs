@@ -1,5 +1,5 @@
 //! A second reading of the scope paper (01), with what is in force of the change
-//! requests (02): d, and b, which changes nothing that is answered.
+//! requests (02): c, d, and b, which changes nothing that is answered.
 //!
 //! Everything here was written from the papers alone, and `door` and `library` from
 //! `include/chainplater.h` besides. None of it comes from the Rattle source, by
@@ -7,17 +7,18 @@
 //! with each other and prove nothing. Every landing that changes this package
 //! keeps it that way.
 //!
-//! Four points were not reached so: what `pair::rank` answers for a channel that
+//! Six points were not reached so: what `pair::rank` answers for a channel that
 //! no group has, and `book::body` for an entry whose body is not all in the
 //! book; that the line of a refused capture keeps its number, sections and steps;
-//! and that a request was last sent, in 02 d, if the step before sent it, and no
-//! earlier one. On the first three the paper is silent, and the fourth takes 02 at
-//! its word. What is answered was settled for both programs, and their agreement
-//! on it is no evidence.
+//! that a request was last sent, in 02 d, if the step before sent it, and no
+//! earlier one; that conditions are refused, in 02, c, as they are handed in, with
+//! an alarm as without; and the byte that tells of an alarm. The fourth takes 02 at
+//! its word, and on the others the papers are silent. What is answered was settled
+//! for both programs, and their agreement on it is no evidence.
 //!
-//! Nor was the closed form of `judge::scan`, which requests can be sent in a step:
-//! it was handed over. What speaks for it is that it agrees with the judge by brute
-//! force, which was written from the paper alone.
+//! Nor was the closed form of `judge::scan`, which requests can be sent in a step,
+//! with an alarm or without: it was handed over. What speaks for it is that it
+//! agrees with the judge by brute force, which was written from the papers alone.
 //!
 //! The programs are compared by what they print: `sequences` for the byte pair and
 //! the controller, `trials` for the capture book. For the judge there is a program

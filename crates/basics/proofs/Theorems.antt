@@ -7,12 +7,12 @@ use Prim.Native.Nat.{ℕ, _+_, _≤_, _<_}
 use lib.ListN.{length, getD, take, drop}
 use lib.Seq.{sets}
 use denote.Ref.{now}
-use Rattle.basics.specs.First.{Check, firstOf, appliesAt, numberOf, FirstAt}
+use Rattle.basics.specs.First.{CheckFor, Check, firstOr, appliesAt, answerOr, FirstAt, firstOf}
 use Rattle.basics.specs.Answer.{Answers}
 use Rattle.basics.specs.Bytes.{twoAt, fourAt, twoBytes, fourBytes}
 use Rattle.basics.specs.Fields.{Width, sizeOf, fieldsAt, fieldBytes}
 use Rattle.basics.proofs.Table.{every, at-entry, values, entry-is}
-use Rattle.basics.proofs.First.{CountedFrom, first-exact, numbered, none-exact, first-applies}
+use Rattle.basics.proofs.First.{first-given, first-shown, others, none-of, CountedFrom, first-exact, numbered, none-exact}
 use Rattle.basics.proofs.Bytes.{two-back, four-back}
 use Rattle.basics.proofs.Fields.{fields-back, fields-again}
 use Rattle.basics.proofs.One.{OneAnswer, OneContent, one-value, one-case}
@@ -65,6 +65,22 @@ fields-complete : (bytes : List ℕ) → ((i : ℕ) → getD bytes i 0 < 256)
     → fieldBytes layout (fieldsAt layout bytes at) ≡ take (sizeOf layout) (drop at bytes)
 fields-complete = fields-again
 
+-- Answers in an order: the answer of the check that is the first to apply is given; and what is given, if it is not the
+-- other, is the answer of such a check. A kind of answer that the other has, and no check bears, is given exactly where no
+-- check applies.
+given-right : {A : Type 0} (none : A) (checks : List (CheckFor A)) (i : ℕ) → FirstAt checks i
+    → firstOr none checks ≡ answerOr none checks i
+given-right = first-given
+
+given-complete : {A : Type 0} (none : A) (checks : List (CheckFor A)) → (firstOr none checks ≡ none → ⊥)
+    → (i : ℕ) × FirstAt checks i × (firstOr none checks ≡ answerOr none checks i)
+given-complete = first-shown
+
+none-right : {A : Type 0} (kind : A → Bool) (none : A) (checks : List (CheckFor A)) → kind none ≡ true
+    → others kind checks ≡ true
+    → (kind (firstOr none checks) ≡ true) ↔ ((i : ℕ) → appliesAt checks i ≡ false)
+none-right = none-of
+
 -- Of checks numbered 1, 2, 3, .., the number i + 1 is answered exactly where the check at place i is the first to
 -- apply; and 0 exactly where none applies, if no check bears that number.
 first-right : (checks : List Check) → CountedFrom 1 checks → (i : ℕ) → (firstOf checks ≡ i + 1) ↔ FirstAt checks i
@@ -73,11 +89,6 @@ first-right = first-exact
 first-complete : (checks : List Check) → numbered checks ≡ true
     → (firstOf checks ≡ 0) ↔ ((i : ℕ) → appliesAt checks i ≡ false)
 first-complete = none-exact
-
--- Whatever their numbers, what is answered and is not 0 is the number of the first check to apply.
-first-numbered : (checks : List Check) → (firstOf checks ≡ 0 → ⊥)
-    → (i : ℕ) × FirstAt checks i × (firstOf checks ≡ numberOf checks i)
-first-numbered = first-applies
 
 -- A test that is computed once over a whole list holds at each entry, and a table that computes to the values of a
 -- function has them at each entry.

@@ -10,7 +10,7 @@ ghost use Rattle.pair.specs.Coder.{sectionsFit, decodingTold};
 ghost use mathlib.Core.Bool.{true};
 ghost use mathlib.Core.Path.{_≡_};
 
-// The mark of a pair that was decoded, 0 where it is usable.
+// The mark of a pair that was decoded, 0 where it has none.
 pub(crate) fn mark_in(d: Decoded) -> u8
     ensures { λ r. ⌜ r ≡ decodingTold d .mark ⌝ }
 {

@@ -183,6 +183,11 @@ nothing-found n k1 k2 h = go (finding n k1 k2) refl
     go alarmed e = absurd (false≢true (rw e at h))
     go (marked m) e = absurd (false≢true (rw e at h))
 
+-- which is no alarm
+usable-quiet : (n k1 k2 : ℕ) → usable n k1 k2 ≡ true → alarm n k1 k2 ≡ false
+unfolding alarm
+usable-quiet n k1 k2 h = rw (nothing-found n k1 k2 h)
+
 pub usable-facts : (n k1 k2 : ℕ) (p : Pair) → decodingCase (decoding n k1 k2) ≡ decoded.Usable p
     → UsablePair n k1 k2 × (p ≡ pairOf k1 k2)
 unfolding decoding usable
@@ -278,6 +283,13 @@ record-back n p k1 k2 h =
     let facts = encoded-facts n p k1 k2 h in
     let made = bytes-usable n p (facts .0) (facts .1) in
     rw (← facts .2, ← facts .3) (facts-usable n (firstByte p) (secondByte p) (made .0) ∙ ap decoded.Usable (made .1))
+
+-- no record encodes to an alarm
+pub record-quiet : (n : ℕ) (p : Pair) (k1 k2 : ℕ) → encodingCase (encoding n p) ≡ encoded.Bytes k1 k2
+    → alarm n k1 k2 ≡ false
+record-quiet n p k1 k2 h =
+    let facts = usable-facts n k1 k2 p (record-back n p k1 k2 h) in
+    usable-quiet n k1 k2 (parts-usable n k1 k2 (facts .0))
 
 pub encodable-exact : (n : ℕ) (p : Pair) → sectionsFit n ≡ true
     → (encodable n p ≡ true)

@@ -13,7 +13,7 @@ use Rattle.pair.specs.Coder.{sectionsFit, decodingCase, decoding, encodi
 use Rattle.pair.specs.declared.Pair.{Pair}
 use Rattle.pair.specs.declared.Decoded.the-variants as decoded
 use Rattle.pair.specs.declared.Encoded.the-variants as encoded
-use Rattle.pair.proofs.Coding.{fit-mark, fit-alarm, pair-back, record-back, encodable-exact, alarm-test}
+use Rattle.pair.proofs.Coding.{fit-mark, fit-alarm, pair-back, record-back, record-quiet, encodable-exact, alarm-test}
 use Rattle.pair.proofs.Ranks.{rowAt, row-rank, usable-row, fail-outranks, rank-most, rank-own}
 use Rattle.pair.proofs.sections_fit.Kinds as sections-fit-kinds
 use Rattle.pair.proofs.sections_fit.Reads as sections-fit
@@ -83,6 +83,11 @@ pair-right = pair-back
 record-right : (n : ℕ) (p : Pair) (k1 k2 : ℕ) → encodingCase (encoding n p) ≡ encoded.Bytes k1 k2
     → decodingCase (decoding n k1 k2) ≡ decoded.Usable p
 record-right = record-back
+
+-- An alarm is no record, so no record encodes to one.
+record-no-alarm : (n : ℕ) (p : Pair) (k1 k2 : ℕ) → encodingCase (encoding n p) ≡ encoded.Bytes k1 k2
+    → alarm n k1 k2 ≡ false
+record-no-alarm = record-quiet
 
 -- A record is encoded exactly if some usable pair decodes to it; refusal 10 is for all others.
 encodable-right : (n : ℕ) (p : Pair) → sectionsFit n ≡ true

@@ -160,7 +160,8 @@ impl Line {
     #[inline(always)]
     fn explains(&mut self, [k1, k2, sent, sent_k2]: Row) -> bool {
         self.receive(k1, k2);
-        let open = self.open.has(sent);
+        // An alarm is a failure of section 0, and explains nothing else (paper: 02, c).
+        let open = self.open.has(sent) & (k2 & 0b1111 != ALARM);
         let reverse = sent >> 4 == Request::Reverse.code();
         let kept = self.is_sent(sent, sent_k2, reverse);
         // With 00 08 accepted there is nothing to answer and nothing to bridge.
@@ -172,17 +173,15 @@ impl Line {
         self.kept | self.lost
     }
 
-    /// Rule 1, for a section 0 that has not failed. After an alarm there is none: the
-    /// step is one of a failed section 0, or has no explanation (paper: 02, c).
+    /// Rule 1, for a section 0 that has not failed.
     fn receive(&mut self, k1: u8, k2: u8) {
         let line = k2 & 0b1111;
-        let alarm = line == ALARM;
         let usable = ((line == GOOD_LINE) | (line == REMOTE_DEFECT))
             & (k2 >> 4 <= self.n)
             & self.usable.has(k1);
         self.received = choose(usable, k1, self.received);
-        self.kept = (self.kept | usable) & !alarm;
-        self.lost &= !(usable | alarm);
+        self.kept |= usable;
+        self.lost &= !usable;
     }
 
     /// Rules 4 and 6, with the received pair accepted.
