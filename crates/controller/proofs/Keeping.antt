@@ -19,7 +19,7 @@ use Rattle.request.specs.Command.{fate}
 use Rattle.request.specs.Bridge.{bridge}
 use Rattle.request.specs.declared.Request.{Request}
 use Rattle.request.proofs.Channels.{bridge-within}
-use Rattle.controller.specs.Settings.{maskFits, idleK1, idleK2, fresh, makingCase, making}
+use Rattle.controller.specs.Settings.{maskFits, idleK1, fresh, makingCase, making}
 use Rattle.controller.specs.Rules.{asked, accepting, held, kept, given, replacesHeld, inForce, isWait, waiting}
 use Rattle.controller.specs.Rules.{localRequest, decided, leftAfter, keepsBridge, k1Of, k2Of}
 use Rattle.controller.specs.Refusals.{waitFits, acceptable, conditionsFit, channelFits, refusal}

@@ -15,7 +15,7 @@ use Rattle.request.specs.Wait.{waitNow}
 use Rattle.request.specs.Order.{byRank, byTurn}
 use Rattle.request.specs.declared.Request.{Request}
 use Rattle.request.proofs.Order.{choice-has, each-append, best-has}
-use Rattle.controller.specs.Settings.{idleK1, idleK2}
+use Rattle.controller.specs.Settings.{idleK1}
 use Rattle.controller.specs.Rules.{noRequest, reverse, asked, accepted, accepting, isCommand, held, isClear}
 use Rattle.controller.specs.Rules.{kept, given, replacesHeld, inForce, conditionsFrom, isFailOrDegrade, isWait, entersWait}
 use Rattle.controller.specs.Rules.{waiting, candidates, localRequest, decided}

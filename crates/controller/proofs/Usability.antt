@@ -5,12 +5,12 @@ use mathlib.Core.List.{[], _∷_}
 use mathlib.Core.Logic.{inl, inr}
 use Prim.Native.Nat.{ℕ, _≤_}
 use native.Mathlib.Omega.{arith}
-use lib.Dec.{leb, eqb, leb·zero}
+use lib.Dec.{leb, leb·zero}
 use denote.Enum.Declared.{tagOf}
 use types.Run.{OneOf}
-use borrow.Author.Tests.{leb-true, eqb-true, eq-eqb}
+use borrow.Author.Tests.{leb-true}
 use Rattle.pair.specs.Request.{requests, carries}
-use Rattle.pair.specs.Marks.{codeOf, channelOf, nothing, finding, usable}
+use Rattle.pair.specs.Marks.{codeOf, channelOf, usable}
 use Rattle.pair.specs.Coder.{sectionsFit, decodingCase, pairOf, decoding}
 use Rattle.pair.specs.declared.Decoded.{Decoded}
 use Rattle.pair.specs.declared.Decoded.the-variants as decoded

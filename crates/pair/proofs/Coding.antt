@@ -8,7 +8,6 @@ use native.Mathlib.Omega.{arith}
 use lib.Dec.{leb, ltb, eqb, lit<}
 use lib.ListN.{drop}
 use borrow.Author.Tests.{ltb-true, lt-leb, leb-true, ltb-false, eqb-true, eqb-false, eq-eqb, ne-eqb, le-leb, le-ltb, not-false}
-use Rattle.basics.specs.Choice.{if_then_else_}
 use Rattle.basics.specs.Answer.{Answers}
 use Rattle.basics.proofs.One.{answers}
 use Rattle.basics.proofs.First.{never-given, none-of}

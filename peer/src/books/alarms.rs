@@ -56,12 +56,11 @@ struct Scene {
 }
 
 fn scenes() -> Vec<Scene> {
-    let settings = SIZES.map(|n| Settings {
-        n,
-        mask: 1 << (n - 1),
-        w: 2,
-    });
-    settings.into_iter().flat_map(scenes_of).collect()
+    SIZES
+        .into_iter()
+        .map(Settings::with_last_high)
+        .flat_map(scenes_of)
+        .collect()
 }
 
 /// Of what stands beside the line bits of an alarm nothing counts: the rest of the
@@ -176,6 +175,7 @@ impl Scene {
 #[cfg(test)]
 mod tests {
     use super::*;
+    use crate::books::capture::has_alarm;
     use crate::judge::Verdict;
 
     #[test]
@@ -213,8 +213,7 @@ mod tests {
         let mut alarms = 0;
         let mut explained = [0; 3];
         for (number, capture) in drawn.iter().enumerate() {
-            let is_alarm = |&&[k1, k2, ..]: &&Row| pairs::is_alarm([k1, k2]);
-            alarms += capture.rows.iter().filter(is_alarm).count();
+            alarms += capture.rows.iter().filter(|row| has_alarm(row)).count();
             let verdict = capture.judged();
             explained[number % 3] += usize::from(matches!(verdict, Verdict::Explained(_)));
         }

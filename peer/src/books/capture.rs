@@ -1,6 +1,6 @@
 //! Captures, and the books they are bound into.
 
-use super::pairs::UNUSABLE;
+use super::pairs::{is_alarm, UNUSABLE};
 use crate::book::{self, MOST_BYTES, MOST_ENTRIES};
 use crate::controller::{self, Record};
 use crate::judge::Row;
@@ -20,6 +20,15 @@ impl Settings {
     /// For settings that are good.
     pub fn fresh(self) -> Record {
         controller::fresh(self.n, self.mask, self.w).expect("settings within the paper's bounds")
+    }
+
+    /// The last section alone is of high priority.
+    pub fn with_last_high(n: u8) -> Self {
+        Self {
+            n,
+            mask: 1 << (n - 1),
+            w: 2,
+        }
     }
 
     /// A step that shows which pair is the accepted one: no other comes, no command is
@@ -95,6 +104,11 @@ impl Told {
 /// A step in which the first pair was received and the second sent.
 pub fn row([k1, k2]: [u8; 2], [sent_k1, sent_k2]: [u8; 2]) -> Row {
     [k1, k2, sent_k1, sent_k2]
+}
+
+/// Whether an alarm was received in that step (paper: 02, c).
+pub fn has_alarm(&[k1, k2, ..]: &Row) -> bool {
+    is_alarm([k1, k2])
 }
 
 /// Binds captures into as few books as hold them in their order, since each book

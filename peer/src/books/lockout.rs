@@ -55,12 +55,11 @@ struct Scene {
 }
 
 fn scenes() -> Vec<Scene> {
-    let settings = SIZES.map(|n| Settings {
-        n,
-        mask: 1 << (n - 1),
-        w: 2,
-    });
-    settings.into_iter().flat_map(scenes_of).collect()
+    SIZES
+        .into_iter()
+        .map(Settings::with_last_high)
+        .flat_map(scenes_of)
+        .collect()
 }
 
 fn scenes_of(settings: Settings) -> impl Iterator<Item = Scene> {

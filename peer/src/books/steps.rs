@@ -12,10 +12,20 @@ const AFTER_FAIL: Start = (&[[0x00, 0x08, 0xC1, 0x08]], [0x21, 0x18]);
 /// The accepted pair has two possible values here.
 const AFTER_LOCKOUT: Start = (&[[0x81, 0x08, 0xF0, 0x08]], UNUSABLE);
 
-const STARTS: [(Start, &[u8]); 3] = [
+/// An alarm, where the accepted pair would have the bridge.
+const AT_ALARM: Start = (&[[0x81, 0x08, 0x21, 0x18]], [0x81, 0x0F]);
+/// The accepted pair would have two possible values here, but for the alarm.
+const AFTER_ALARM: Start = (
+    &[[0x81, 0x08, 0xF0, 0x08], [0x81, 0x0F, 0xF0, 0x08]],
+    UNUSABLE,
+);
+
+const STARTS: [(Start, &[u8]); 5] = [
     (FRESH, &[0x08, 0x18, 0x28, 0x0E]),
     (AFTER_FAIL, &[0x08, 0x18]),
     (AFTER_LOCKOUT, &[0x08, 0x18]),
+    (AT_ALARM, &[0x08, 0x18]),
+    (AFTER_ALARM, &[0x08, 0x18]),
 ];
 
 pub fn captures() -> Vec<Capture> {
@@ -102,15 +112,32 @@ mod tests {
         [0x00, 0x08],
     ];
 
+    /// Section 0 has failed, whatever else the step is (02, c).
+    const SENT_AT_ALARM: [[u8; 2]; 2] = [[0xD0, 0x08], [0xF0, 0x08]];
+
+    /// As after lockout, but for what MS 1 would have to be accepted for.
+    const SENT_AFTER_ALARM: [[u8; 2]; 8] = [
+        [0xF0, 0x08],
+        [0xD0, 0x08],
+        [0xA1, 0x08],
+        [0xC1, 0x08],
+        [0xA2, 0x08],
+        [0xB0, 0x08],
+        [0xC2, 0x08],
+        [0x00, 0x08],
+    ];
+
     #[test]
     fn what_can_be_sent_is_what_the_rules_say() {
         assert_eq!(explained(FRESH), SENT_FRESH.into());
         assert_eq!(explained(AFTER_FAIL), SENT_AFTER_FAIL.into());
         assert_eq!(explained(AFTER_LOCKOUT), SENT_AFTER_LOCKOUT.into());
+        assert_eq!(explained(AT_ALARM), SENT_AT_ALARM.into());
+        assert_eq!(explained(AFTER_ALARM), SENT_AFTER_ALARM.into());
     }
 
     #[test]
     fn every_k1_is_sent_in_each_way() {
-        assert_eq!(captures().len(), 2 * (4 + 2 + 2) * 256);
+        assert_eq!(captures().len(), 2 * (4 + 2 + 2 + 2 + 2) * 256);
     }
 }

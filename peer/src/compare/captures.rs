@@ -5,12 +5,12 @@
 use super::lent::{Lent, LentSlice, Memory, Part};
 use super::tally::{both, Tally};
 use crate::book::{MOST_BYTES, STEP_BYTES};
-use crate::books::capture::{Capture, Settings};
+use crate::books::capture::{has_alarm, Capture, Settings};
 use crate::books::runs::{self, COMMON, LOCKED};
 use crate::books::{changes, pairs};
 use crate::door::{verdict_bytes, Door, VERDICT};
 use crate::draws::{Bits, Draws};
-use crate::judge::{judge, Row};
+use crate::judge::judge;
 
 pub const PARTS: usize = 200;
 const CAPTURES: usize = 1_000;
@@ -102,7 +102,6 @@ fn count([kind, high, low]: [u8; VERDICT], capture: &[u8], tally: &mut Tally) {
     }
     let (rows, _) = capture.as_chunks();
     let step = usize::from(u16::from_be_bytes([high, low]));
-    let has_alarm = |&[k1, k2, ..]: &Row| pairs::is_alarm([k1, k2]);
     if kind == EXPLAINED && rows.iter().any(has_alarm) {
         tally.count(EXPLAINED_WITH_ALARMS);
     }

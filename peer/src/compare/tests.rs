@@ -153,16 +153,20 @@ fn a_library_that_hears_no_alarms_is_noticed() {
     }
 }
 
+/// The counts of the kinds that have to do with alarms.
+fn alarms(name: &str, tally: &Tally) -> Vec<u64> {
+    let kinds = subject(name).kinds.iter().zip(tally.kinds);
+    kinds
+        .filter(|(kind, _)| kind.contains("alarm"))
+        .map(|(_, count)| count)
+        .collect()
+}
+
 /// So that a comparison which comes by none does not pass.
 #[test]
 fn alarms_are_kinds_of_their_own() {
     for name in RECEIVING {
-        let tally = part_of(name, &Peer);
-        let kinds = subject(name).kinds.iter().zip(tally.kinds);
-        let alarms: Vec<u64> = kinds
-            .filter(|(kind, _)| kind.contains("alarm"))
-            .map(|(_, count)| count)
-            .collect();
+        let alarms = alarms(name, &part_of(name, &Peer));
         assert!(!alarms.is_empty(), "{name}");
         assert!(alarms.iter().all(|&count| count >= 20), "{name} {alarms:?}");
     }
@@ -172,11 +176,13 @@ fn alarms_are_kinds_of_their_own() {
 /// more where any bytes are.
 #[test]
 fn alarms_are_as_frequent_as_is_meant() {
-    let [decoded, drawn, walked, _] = RECEIVING.map(|name| part_of(name, &Peer));
-    assert_eq!(decoded.kinds[6], decoded.calls / 16);
-    let eighth = |steps: u64| steps / 9..steps / 7;
-    assert!(eighth(drawn.refusals[0]).contains(&drawn.kinds[0]));
-    assert!(eighth(walked.calls).contains(&walked.kinds[16]));
+    let decoded = part_of("decode", &Peer);
+    assert_eq!(alarms("decode", &decoded), [decoded.calls / 16]);
+    for name in ["step, drawn", "step, walks"] {
+        let tally = part_of(name, &Peer);
+        let (steps, alarms) = (tally.refusals[0], alarms(name, &tally));
+        assert!((steps / 9..steps / 7).contains(&alarms[0]), "{name}");
+    }
 }
 
 /// Two steps for each walk are not counted as two walks.

@@ -4,7 +4,7 @@
 
 use super::*;
 use crate::books::pairs::{alarmed, is_alarm};
-use crate::books::runs::{self, Given, Run, COMMON, CROWDED};
+use crate::books::runs::{self, Given, Habit, Run, COMMON, CROWDED};
 use crate::draws::Draws;
 use crate::pair::{decode, rank, Received};
 
@@ -14,6 +14,7 @@ const W: u16 = 1;
 const MASKS: [u16; 3] = [0, 3, 2];
 const COMMANDS: [(u8, u8); 7] = [(0, 0), (1, 0), (2, 0), (3, 1), (3, 2), (4, 1), (4, 2)];
 
+const HABITS: [Habit; 4] = [CROWDED, COMMON, CROWDED.with_alarms(), COMMON.with_alarms()];
 const WALKS: usize = 2_000;
 const STEPS_OF_A_WALK: usize = 100;
 
@@ -129,14 +130,8 @@ fn for_all_steps(mut see: impl FnMut(&Taken)) {
 fn for_drawn_steps(mut see: impl FnMut(&Taken)) {
     let mut draws = Draws::from_seed(51);
     for walk in 0..WALKS {
-        let habit = if walk % 2 == 0 { CROWDED } else { COMMON };
-        let habit = if walk % 4 < 2 {
-            habit
-        } else {
-            habit.with_alarms()
-        };
         let settings = runs::draw_settings(&mut draws);
-        let mut run = Run::new(&mut draws, habit, settings);
+        let mut run = Run::new(&mut draws, HABITS[walk % HABITS.len()], settings);
         for _ in 0..STEPS_OF_A_WALK {
             let Given {
                 received,

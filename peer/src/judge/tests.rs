@@ -287,7 +287,12 @@ fn same_records_reached(start: Record, rows: &[Row], causes: [&[Cause]; 2]) -> b
 fn explained_are_just_the_captures_of_two_causes() {
     let start = controller::fresh(1, 0, 1).unwrap();
     let causes = causes(1);
-    for received in [[[0x81, 0x08], [0x11, 0x08]], [[0x00, 0x08], [0x21, 0x18]]] {
+    for received in [
+        [[0x81, 0x08], [0x11, 0x08]],
+        [[0x00, 0x08], [0x21, 0x18]],
+        [[0x81, 0x08], [0x81, 0x1F]],
+        [[0x81, 0x0F], [0x11, 0x08]],
+    ] {
         let [first, second] = received;
         let mut known = HashSet::new();
         for cause in &causes {

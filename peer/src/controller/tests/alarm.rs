@@ -1,16 +1,13 @@
 //! Steps that receive an alarm (02, c), in the group of the paper's sequences.
 
 use super::*;
+use crate::books::pairs::is_alarm;
 
 /// The pair that P3 receives, but for the line bits.
 const ALARM: [u8; 2] = [0x22, 0x2F];
 
 fn all_pairs() -> impl Iterator<Item = [u8; 2]> {
     (0..=u16::MAX).map(u16::to_be_bytes)
-}
-
-fn is_alarm([k1, k2]: [u8; 2]) -> bool {
-    decode(2, k1, k2) == Ok(Received::Alarm)
 }
 
 /// The record that is left of one, where D0 is sent.

@@ -1,6 +1,6 @@
 use super::*;
 use crate::books::capture::Settings;
-use crate::books::runs::{self, COMMON, LOCKED};
+use crate::books::runs::{self, Habit, COMMON, LOCKED};
 use crate::books::{changes, pairs};
 use crate::draws::Draws;
 use crate::judge::{causes, explain, reached_by, Cause};
@@ -163,6 +163,8 @@ fn the_judges_agree_behind_longer_fronts() {
     }
 }
 
+const HABITS: [Habit; 4] = [COMMON, LOCKED, COMMON.with_alarms(), LOCKED.with_alarms()];
+
 /// Runs and damaged runs in groups of every size.
 #[test]
 fn the_judges_agree_on_drawn_captures() {
@@ -177,12 +179,7 @@ fn the_judges_agree_on_drawn_captures() {
                 mask,
                 w: draws.below(4),
             };
-            let habit = if round % 2 == 0 { COMMON } else { LOCKED };
-            let habit = if round % 4 < 2 {
-                habit
-            } else {
-                habit.with_alarms()
-            };
+            let habit = HABITS[round % HABITS.len()];
             let mut capture = runs::draw(&mut draws, habit, settings, 12);
             if round % 3 > 0 {
                 changes::replace(&mut draws, &mut capture);

@@ -2,9 +2,9 @@
 //! by nothing else.
 
 use super::*;
-use crate::books::capture::Settings;
+use crate::books::capture::{has_alarm, Settings};
+use crate::books::changes;
 use crate::books::runs::{self, COMMON, LOCKED};
-use crate::books::{changes, pairs};
 
 /// MS 1 of the far end is accepted, and answered.
 const HEARD: Row = [0x81, 0x08, 0x21, 0x18];
@@ -143,9 +143,8 @@ impl Seen {
             self.explained += 1;
             return;
         };
-        let [k1, k2, ..] = rows[step];
         self.unexplained += 1;
-        self.at_an_alarm += usize::from(pairs::is_alarm([k1, k2]));
+        self.at_an_alarm += usize::from(has_alarm(&rows[step]));
     }
 }
 
