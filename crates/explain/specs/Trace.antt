@@ -97,7 +97,7 @@ next d r =
     record {
       controller = recordAfter s (seen .now) k1 (acceptedByte fits (r .k2) (s .k2)) (r .sentK1);
       heard = unfailed && opens k1 x (r .sentK2) (seen .local) && (fits || d .heard);
-      idle = unfailed && not fits && opens idleK1 x (r .sentK2) (seen .local) && d .idle || carried && seen .hidden;
+      idle = unfailed && not fits && opens idleK1 x (r .sentK2) (seen .local) && d .idle || seen .hidden;
     }
 
 -- the verdict of the scan

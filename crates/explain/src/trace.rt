@@ -98,7 +98,7 @@ pub(crate) fn next(d: Records, k1: u8, k2: u8, sent1: u8, sent2: u8) -> Records
     Records {
         controller,
         heard: opened & (fits | d.heard),
-        idle: (opened_idle & d.idle) | (carried & seen.hidden),
+        idle: (opened_idle & d.idle) | seen.hidden,
     }
 }
 
