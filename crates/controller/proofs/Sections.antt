@@ -2,19 +2,19 @@
 use mathlib.Core.Path.{_≡_, refl, sym, ap, _∙_}
 use mathlib.Core.Bool.{Bool, true, false}
 use mathlib.Core.List.{List, [], _∷_}
-use mathlib.Core.Logic.{inl, inr}
+use mathlib.Core.Logic.{inl, inr, ⊎-elim}
 use Prim.Native.Nat.{ℕ, zero, suc, _+_, _<_, _≤_, zero-le, suc-le-suc}
 use native.Mathlib.Nat.{add-zero, zero-add, add-suc, suc-add, le-of-suc-le-suc, not-suc-le-zero}
 use native.Mathlib.Omega.{arith}
 use lib.Dec.{eqb}
-use lib.ListN.{length, getD, set, drop, replicate}
+use lib.ListN.{length, getD, set, drop, replicate, length-set}
 use lib.Seq.{getD-set-same, getD-set-other}
 use borrow.Author.Tests.{eqb-true, eqb-false, ne-eqb}
 use Rattle.request.specs.Order.{turn, OneOf}
 use Rattle.request.specs.declared.Request.{Request}
 use Rattle.request.proofs.FirstCome.{Turns, turn-cases, turn-own}
 use Rattle.controller.specs.Rules.{rankOfRequest, condition, conditionsFrom}
-use Rattle.controller.specs.Asking.{asks, sectionAt, AtTurn, Ranked}
+use Rattle.controller.specs.Asking.{asks, sectionAt, AtTurn, Laid, Ranked}
 use Rattle.controller.proofs.Apart.{own-channel}
 
 -- where the first of some conditions is another, the rest are as they were, and as many
@@ -57,6 +57,15 @@ zeros (suc m) zero = refl
 zeros (suc m) (suc t) = zeros m t
 
 -- what a section asks for: its turn, and the section whose turn that is
+-- a condition asks for its own section, or for nothing
+channel-most : (mask c x : ℕ) → condition mask c x .channel ≤ c
+channel-most mask c x = go (eqb x 2) (eqb x 1) refl refl
+  where
+    go : (failed degraded : Bool) → eqb x 2 ≡ failed → eqb x 1 ≡ degraded → condition mask c x .channel ≤ c
+    go true degraded e f = rw e (omega arith)
+    go false true e f = rw (e, f) (omega arith)
+    go false false e f = rw (e, f) zero-le
+
 module _ (mask : ℕ) (conditions : List ℕ) (last : Request) where
   abbrev asksAt : ℕ → Request
   asksAt c = asks mask conditions c
@@ -72,16 +81,14 @@ module _ (mask : ℕ) (conditions : List ℕ) (last : Request) where
   apart i c some some′ h =
       sym (channel-at i some) ∙ turn-own last (asksAt i) (asksAt c) h ∙ channel-at c some′
 
-  pub turn-within : (c : ℕ) → 0 < rankOfRequest (asksAt c) → turnAt c ≤ c + 1
-  turn-within c some = go (turn-cases last (asksAt c))
+  -- and none comes later than behind the sections before it
+  pub turn-within : (c : ℕ) → turnAt c ≤ c + 1
+  turn-within c = go (turn-cases last (asksAt c)) (channel-most mask c (getD conditions c 0))
     where
-      own : asksAt c .channel ≡ c
-      own = channel-at c some
-
-      go : Turns last (asksAt c) → turnAt c ≤ c + 1
-      go (inl (t, on-0)) = omega (arith, own)
-      go (inr (inl (t, is, on))) = omega (arith, own)
-      go (inr (inr (t, on))) = omega (arith, own)
+      go : Turns last (asksAt c) → asksAt c .channel ≤ c → turnAt c ≤ c + 1
+      go (inl (t, on-0)) most = omega arith
+      go (inr (inl (t, is, on))) most = omega arith
+      go (inr (inr (t, on))) most = omega arith
 
   section-back : (c : ℕ) → 0 < rankOfRequest (asksAt c) → sectionAt last (turnAt c) ≡ c
   section-back c some = go (turn-cases last (asksAt c))
@@ -166,3 +173,20 @@ module _ (mask : ℕ) (conditions : List ℕ) (last : Request) where
               let same = getD-set-other ranks (turnAt c) t (rankOfRequest (asksAt c)) 0 (eqb-false t (turnAt c) e) in
               let kept = before .section-is t (rw same at held) in
               rw same (omega arith, kept .1)
+
+  -- a rank that was laid out at its turn, or none
+  pub laid-ranked : (x : Request) (ranks laid : List ℕ) (c past-last past : ℕ)
+      → Ranked mask conditions last ranks c past-last → length ranks ≡ 16 → c ≤ 14 → x ≡ asksAt c
+      → Laid last x ranks past-last laid past → Ranked mask conditions last laid (c + 1) past × (length laid ≡ 16)
+  laid-ranked x ranks laid c past-last past before long few is (inl (none, same, stays)) =
+      rw (same, stays) (silent-ranked ranks c past-last before (rw (← is) none), long)
+  laid-ranked x ranks laid c past-last past before long few is (inr (some, stored, later, behind, which)) =
+      let asks-some : 0 < rankOfRequest (asksAt c) = rw (← is) some in
+      let early = turn-within c in
+      let inside = before .within in
+      let at : turn last x ≡ turnAt c = ap (turn last) is in
+      let bound : past ≤ c + 2 = ⊎-elim (λ e. omega arith) (λ e. omega arith) which in (
+        rw (stored, is)
+            (asking-ranked ranks c past-last before asks-some (omega arith) past later (rw (← is) behind) bound),
+        rw stored (length-set ranks (turn last x) (rankOfRequest x) ∙ long),
+      )

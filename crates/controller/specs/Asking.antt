@@ -5,7 +5,7 @@ use mathlib.Core.List.{List}
 use mathlib.Core.Logic.{_⊎_}
 use Prim.Native.Nat.{ℕ, _+_, _-_, _<_, _≤_}
 use lib.Dec.{eqb}
-use lib.ListN.{getD}
+use lib.ListN.{getD, set}
 use Rattle.basics.specs.Choice.{if_then_else_}
 use Rattle.request.specs.Order.{turn}
 use Rattle.request.specs.declared.Request.{Request}
@@ -27,6 +27,16 @@ sectionAt last t = if eqb t 1 then last .channel else t - 1
 pub record AtTurn (mask : ℕ) (conditions : List ℕ) (last : Request) (rank t : ℕ) : Type 0 where
   pub own-turn : turn last (asks mask conditions (sectionAt last t)) ≡ t
   pub own-rank : rankOfRequest (asks mask conditions (sectionAt last t)) ≡ rank
+
+-- the rank of a request is laid at its turn, and the place behind the last moves on; where it has none, nothing moves
+abbrev pub Laid : Request → Request → List ℕ → ℕ → List ℕ → ℕ → Type 0
+Laid last x ranks past-last laid past =
+    ((rankOfRequest x ≡ 0) × (laid ≡ ranks) × (past ≡ past-last))
+    ⊎ ((0 < rankOfRequest x)
+    × (laid ≡ set ranks (turn last x) (rankOfRequest x))
+    × (past-last ≤ past)
+    × (turn last x + 1 ≤ past)
+    × ((past ≡ past-last) ⊎ (past ≡ turn last x + 1)))
 
 -- of the sections before c: each that asks for something has its rank at its turn, before `past-last`; no other place has one
 pub record Ranked (mask : ℕ) (conditions : List ℕ) (last : Request) (ranks : List ℕ) (c past-last : ℕ) : Type 0 where

@@ -6,11 +6,11 @@ use crate::section::condition;
 use request::Request;
 use request::better;
 use request::turn;
-ghost use Prim.Native.Nat.{_≤_, _<_};
-ghost use Rattle.controller.specs.Asking.{OfKind, asks, sectionAt, Ranked};
+ghost use Prim.Native.Nat.{_+_, _≤_, _<_};
+ghost use Rattle.controller.specs.Asking.{OfKind, asks, sectionAt, Laid, Ranked};
 ghost use Rattle.controller.specs.Rules.{isCommand, isWait, localRequest, decided};
 ghost use Rattle.pair.specs.Request.{rankOf};
-ghost use Rattle.request.specs.Order.{byRank};
+ghost use Rattle.request.specs.Order.{turn, byRank};
 ghost use lib.ListN.{length, drop, replicate};
 ghost use mathlib.Core.List.{_∷_};
 ghost use mathlib.Core.Logic.{_⊎_};
@@ -35,6 +35,21 @@ fn later(a: usize, b: usize) -> usize
     if a < b { b } else { a }
 }
 
+// The rank of a request, at its turn; and the place behind the last one that has a rank.
+fn lay(x: Request, last: Request, ranks: &mut [u8], place: usize) -> usize
+    requires { ⌜ (turn last x + 1 ≤ 16) × (length (now ranks) ≡ 16) ⌝ }
+    ensures { λ r. ⌜ Laid last x (now (ranks .entry)) place (now (ranks .exit)) r ⌝ }
+{
+    let rank = rank_of(x);
+    if 0 < rank {
+        let at = turn(last, x);
+        ranks[at] = rank;
+        later(place, at + 1)
+    } else {
+        place
+    }
+}
+
 // The rank of what each section asks for, worked out once a step, at its turn; and the place behind the last of them.
 fn section_ranks(
     mask: u16,
@@ -46,17 +61,12 @@ fn section_ranks(
     requires { ⌜ (1 ≤ length (now conditions)) × (length (now conditions) ≤ 15) × (now ranks ≡ replicate 16 0) ⌝ }
     ensures { λ r. ⌜ Ranked mask (protection ∷ drop 1 (now (conditions .entry))) last (now (ranks .exit)) (length (now (conditions .entry))) r ⌝ }
 {
-    let mut past_last: usize = 0;
-    let mut c: u8 = 0;
+    let mut past_last = lay(condition(mask, 0, protection), last, ranks, 0);
+    let mut c: u8 = 1;
     while (c as usize) < conditions.len() {
-        let asked = section_asks(mask, protection, conditions, c);
-        let rank = rank_of(asked);
+        let asked = condition(mask, c, conditions[c as usize]);
+        past_last = lay(asked, last, ranks, past_last);
         c += 1;
-        if 0 < rank {
-            let at = turn(last, asked);
-            ranks[at] = rank;
-            past_last = later(past_last, at + 1);
-        }
     }
     past_last
 }
