@@ -69,7 +69,8 @@ moved s k1 k2 conditions command c =
     let sent = decided (far .request) near in
     answering s far sent now (fate command replaced (same sent new))
 
--- where the received pair is an alarm, as if section 0 had failed, whatever its condition was said to be (02, c)
+-- what it acts on: the conditions as handed in or, where an alarm is received, with section 0 failed, whatever it was said
+-- to be (02, c)
 abbrev pub actsOn : Bool → List ℕ → List ℕ
 actsOn alarmed conditions = if alarmed then 2 ∷ drop 1 conditions else conditions
 

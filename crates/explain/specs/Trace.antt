@@ -83,8 +83,8 @@ seenIn s sentK1 sentK2 =
 abbrev pub acceptedByte : Bool → ℕ → ℕ → ℕ
 acceptedByte fits received before = if fits then received else before
 
--- the sent K1 stands in the table; with a usable pair received that pair is accepted, unless section 0 has failed; and with
--- an alarm received section 0 has failed
+-- the sent K1 stands in the table, as what is sent under a failed section 0 does; with a usable pair received that pair is
+-- accepted, unless section 0 has failed; and with an alarm received section 0 has failed
 unfoldable pub next : Records → Row → Records
 next d r =
     let s = d .controller in
