@@ -1,4 +1,4 @@
--- What the crates above share: choice on a test, the first number that applies, what an answer promises,
+-- What the crates above share: choice on a test, the first answer that applies, what an answer promises,
 -- big-endian numbers, and fields of them one behind the other.
 pub mod Choice
 pub mod First

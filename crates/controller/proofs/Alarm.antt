@@ -23,6 +23,11 @@ pub acts-working : (t : Bool) (conditions : List ℕ) → drop 1 (actsOn t condi
 acts-working true conditions = refl
 acts-working false conditions = refl
 
+-- and not where it has failed
+acts-failed : (t : Bool) (working : List ℕ) → actsOn t (2 ∷ working) ≡ 2 ∷ working
+acts-failed true working = refl
+acts-failed false working = refl
+
 module _ (s : Controller) (command c : ℕ) where
   -- no refusal depends on which condition section 0 has
   any-condition : (x y : ℕ) (working : List ℕ) → leb x 2 ≡ true → leb y 2 ≡ true
@@ -40,16 +45,11 @@ module _ (s : Controller) (command c : ℕ) where
       let fit = well-formed s (x ∷ working) command c h .conditions-fit in
       any-condition 2 x working refl (and-eq-true-iff (leb x 2) (conditionsFit working) .0 fit .0) ∙ h
 
-  -- with section 0 failed there is nothing to change
-  acts-failed : (t : Bool) (working : List ℕ) → actsOn t (2 ∷ working) ≡ 2 ∷ working
-  acts-failed true working = refl
-  acts-failed false working = refl
-
-  -- and the received pair is not looked at
-  unseen : (k1 k2 j1 j2 : ℕ) (working : List ℕ)
+  -- with section 0 failed the received pair is not looked at
+  not-looked-at : (k1 k2 j1 j2 : ℕ) (working : List ℕ)
       → moved s k1 k2 (2 ∷ working) command c ≡ moved s j1 j2 (2 ∷ working) command c
   unfolding moved accepting
-  unseen k1 k2 j1 j2 working = refl
+  not-looked-at k1 k2 j1 j2 working = refl
 
   pub alarm-step : (k1 k2 j1 j2 x : ℕ) (working : List ℕ) → alarm (s .n) k1 k2 ≡ true → leb x 2 ≡ true
       → step s k1 k2 (x ∷ working) command c ≡ step s j1 j2 (2 ∷ working) command c
@@ -59,5 +59,5 @@ module _ (s : Controller) (command c : ℕ) where
         e,
         any-condition x 2 working fits refl,
         acts-failed (alarm (s .n) j1 j2) working,
-        unseen k1 k2 j1 j2 working,
+        not-looked-at k1 k2 j1 j2 working,
       )

@@ -61,7 +61,7 @@ fn section_ranks(
     requires { ⌜ (1 ≤ length (now conditions)) × (length (now conditions) ≤ 15) × (now ranks ≡ replicate 16 0) ⌝ }
     ensures { λ r. ⌜ Ranked mask (protection ∷ drop 1 (now (conditions .entry))) last (now (ranks .exit)) (length (now (conditions .entry))) r ⌝ }
 {
-    // Section 0 first, so that no look in the loop asks which section it is at.
+    // Section 0 by itself: its condition is handed in apart, and the loop need not ask at each section which it is.
     let mut past_last = lay(condition(mask, 0, protection), last, ranks, 0);
     let mut c: u8 = 1;
     while (c as usize) < conditions.len() {

@@ -62,10 +62,10 @@ module _ (s : Controller) (r : Row) (loud : alarm (s .n) (r .k1) (r .k2) ≡ tru
           ∙ ap (λ (xs : List ℕ). step s idleK1 idleK2 xs (cause .command) (cause .channel)) (sym whole)
 
   -- some cause leads to a record by the row; one with section 0 failed leads to it by the other
-  abbrev pub Leads : Controller → Type 0
+  abbrev Leads : Controller → Type 0
   Leads u = (c : Cause) × Sends (stepped s c r) r × (u ≡ stepped s c r .controller)
 
-  abbrev pub LeadsFailed : Controller → Type 0
+  abbrev LeadsFailed : Controller → Type 0
   LeadsFailed u =
       (c : Cause)
       × (eqb (protection (c .conditions)) 2 ≡ true)

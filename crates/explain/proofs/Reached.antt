@@ -308,7 +308,7 @@ module _ (s : Controller) (r : Row) (able : Able s) (quiet : alarm (s .n) (r .k1
       go false e = (carried cause sends, inr (open-reached cause sends e))
 
   -- and each of them is left by some cause
-  abbrev pub Some : Bool → Controller → Type 0
+  abbrev Some : Bool → Controller → Type 0
   Some t u =
       (cause : Cause)
       × (eqb (protection (cause .conditions)) 2 ≡ t)

@@ -99,23 +99,16 @@ pub unfit-decoding : (n k1 k2 : ℕ) → sectionsFit n ≡ false → decodingCas
 unfolding decoding
 unfit-decoding n k1 k2 other = rw other
 
-pub fit-mark : (n k1 k2 : ℕ) → sectionsFit n ≡ true → decoding n k1 k2 .mark ≡ mark n k1 k2
-unfolding decoding mark
-fit-mark n k1 k2 fits = rw fits (go (finding n k1 k2))
+-- and has its mark and its alarm
+pub fit-found : (n k1 k2 : ℕ) → sectionsFit n ≡ true
+    → (decoding n k1 k2 .mark ≡ mark n k1 k2) × (decoding n k1 k2 .alarm ≡ alarm n k1 k2)
+unfolding decoding mark alarm
+fit-found n k1 k2 fits = rw fits (go (finding n k1 k2))
   where
-    go : (f : Finding) → decodingOf k1 k2 f .mark ≡ markIn f
-    go nothing = refl
-    go alarmed = refl
-    go (marked m) = refl
-
-pub fit-alarm : (n k1 k2 : ℕ) → sectionsFit n ≡ true → decoding n k1 k2 .alarm ≡ alarm n k1 k2
-unfolding decoding alarm
-fit-alarm n k1 k2 fits = rw fits (go (finding n k1 k2))
-  where
-    go : (f : Finding) → decodingOf k1 k2 f .alarm ≡ isAlarm f
-    go nothing = refl
-    go alarmed = refl
-    go (marked m) = refl
+    go : (f : Finding) → (decodingOf k1 k2 f .mark ≡ markIn f) × (decodingOf k1 k2 f .alarm ≡ isAlarm f)
+    go nothing = (refl, refl)
+    go alarmed = (refl, refl)
+    go (marked m) = (refl, refl)
 
 -- what the checks leave of a usable pair
 pub record UsablePair (n k1 k2 : ℕ) : Type 0 where

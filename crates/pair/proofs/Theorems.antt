@@ -13,7 +13,7 @@ use Rattle.pair.specs.Coder.{sectionsFit, decodingCase, decoding, encodi
 use Rattle.pair.specs.declared.Pair.{Pair}
 use Rattle.pair.specs.declared.Decoded.the-variants as decoded
 use Rattle.pair.specs.declared.Encoded.the-variants as encoded
-use Rattle.pair.proofs.Coding.{fit-mark, fit-alarm, pair-back, record-back, record-quiet, encodable-exact, alarm-test}
+use Rattle.pair.proofs.Coding.{fit-found, pair-back, record-back, record-quiet, encodable-exact, alarm-test}
 use Rattle.pair.proofs.Ranks.{rowAt, row-rank, usable-row, fail-outranks, rank-most, rank-own}
 use Rattle.pair.proofs.sections_fit.Kinds as sections-fit-kinds
 use Rattle.pair.proofs.sections_fit.Reads as sections-fit
@@ -117,7 +117,7 @@ usable-complete n k1 k2 = none-of isNothing nothing (pairChecks n k1 k2) refl re
 -- The decoder answers the mark and the alarm that are found; and an alarm is one by its K2 alone.
 found-right : (n k1 k2 : ℕ) → sectionsFit n ≡ true
     → (decoding n k1 k2 .mark ≡ mark n k1 k2) × (decoding n k1 k2 .alarm ≡ alarm n k1 k2)
-found-right n k1 k2 fits = (fit-mark n k1 k2 fits, fit-alarm n k1 k2 fits)
+found-right = fit-found
 
 alarm-alone : (n k1 k2 : ℕ) → alarm n k1 k2 ≡ alarmIn k2
 alarm-alone = alarm-test

@@ -1,4 +1,4 @@
-// What is found in a pair, where one answer is enough. The decoder has all of them.
+// Whether a pair is usable, and whether it is an alarm, for callers that ask no more than that.
 use crate::request::carries;
 ghost use Rattle.pair.specs.Marks.{usable, alarmIn};
 ghost use mathlib.Core.Path.{_≡_};
@@ -6,7 +6,7 @@ ghost use mathlib.Core.Path.{_≡_};
 // The lower halves of a usable K2, a bit for each: bit 5 and line bits 000, bit 5 and line bits 110.
 const LOWER_HALVES: u16 = 1 << 0b1000 | 1 << 0b1110;
 
-// Whether nothing is found. What it is costs a branch for each of the checks.
+// Whether no check applies. To tell which does costs a branch for each of them.
 pub fn usable(n: u8, k1: u8, k2: u8) -> bool
     ensures { λ r. ⌜ r ≡ usable n k1 k2 ⌝ }
 {

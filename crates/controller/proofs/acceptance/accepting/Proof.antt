@@ -1,6 +1,6 @@
 -- `accepting` meets its contract: the decoder's answer is the usable record, or comes of a pair that is not usable.
 use mathlib.Core.Path.{sym, _∙_}
-use Rattle.pair.proofs.Coding.{fit-mark, usable-facts, parts-usable}
+use Rattle.pair.proofs.Coding.{fit-found, usable-facts, parts-usable}
 use Rattle.controller.specs.Rules.{accepting}
 use Rattle.controller.proofs.Usability.{other-unusable}
 use borrow.Author.Needs.{needs}
@@ -36,7 +36,7 @@ returns-2 c =
       c .accepted2 .ensures,
       c .before .mark-in .ensures,
       d .ensures .numbers,
-      fit-mark (a .s .n) (a .k1) (a .k2) fits,
+      fit-found (a .s .n) (a .k1) (a .k2) fits .0,
       c .before .before .before .before .if1 .left,
       other-unusable (a .s .n) (a .k1) (a .k2) (d .result) fits (d .ensures .decided) (c .before .before .match .keys2),
     )
