@@ -3,7 +3,8 @@
  * of captured lines, and the reader and writer of capture books. The code behind these functions is proved; see
  * README.md for what the proofs say and what they rest on.
  *
- * Every function takes every value of its arguments, ends, and returns 0 or the number of a refusal:
+ * Every function takes every value of its arguments and ends. All but chainplater_k1, which has nothing to refuse and
+ * returns nothing, return 0 or the number of a refusal:
  *
  *    1  n is not 1 to 14                     20  a book of more than 65,536 bytes
  *    2  the mask has a bit at n or above     21  a book of fewer than 2 bytes
@@ -39,6 +40,7 @@ extern "C" {
 #endif
 
 #define CHAINPLATER_RECORD 10
+#define CHAINPLATER_K1 4
 #define CHAINPLATER_DECODED 6
 #define CHAINPLATER_ENCODED 2
 #define CHAINPLATER_STEP 17
@@ -52,6 +54,14 @@ extern "C" {
  * record: the record; zeros where refused.
  */
 uint8_t chainplater_fresh(uint8_t n, uint16_t mask, uint16_t wait, uint8_t record[CHAINPLATER_RECORD]);
+
+/*
+ * What the coder's rules say of a K1, whatever the K2 with it is.
+ * out: 0 the rank of its request, 1 the least and 2 the greatest n, of 1 to 14, for which it is usable, 3 the mark: 3 (code)
+ * or 4 (channel) where no n makes it usable, else 0. Where there is a mark, the others are 0. For probe makers: a usable
+ * value is one with a least n above 0; a rank of 0 alone says nothing, since RR and NR have it too.
+ */
+void chainplater_k1(uint8_t k1, uint8_t out[CHAINPLATER_K1]);
 
 /*
  * What a pair of bytes says on a line of n sections: a request, if it is usable; or an alarm; or nothing, and its mark

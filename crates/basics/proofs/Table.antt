@@ -6,6 +6,7 @@ use mathlib.Core.List.{List, [], _∷_, _++_}
 use Prim.Native.Nat.{ℕ, zero, suc, _+_, _<_}
 use native.Mathlib.Nat.{add-zero, zero-add, add-suc, suc-add, le-of-suc-le-suc, not-suc-le-zero}
 use lib.ListN.{length, getD}
+use Rattle.basics.specs.Table.{valuesFrom, values}
 
 module _ {A : Type 0} where
   abbrev pub every : (A → Bool) → List A → Bool
@@ -26,19 +27,11 @@ module _ {A : Type 0} where
       let both = and-eq-true-iff (test x) (every test xs) .0 whole in
       rw (both .0) (every-joined test xs list′ (both .1) whole′)
 
--- the values of f at i, i + 1, .., as many as n
-abbrev pub valuesFrom : ℕ → (ℕ → ℕ) → ℕ → List ℕ
-valuesFrom i f zero = []
-valuesFrom i f (suc n) = f i ∷ valuesFrom (suc i) f n
-
 value-from : (f : ℕ → ℕ) (n i k : ℕ) → k < n → getD (valuesFrom i f n) k 0 ≡ f (i + k)
 value-from f zero i k h = absurd (not-suc-le-zero h)
 value-from f (suc n) i zero h = ap f (sym (add-zero i))
 value-from f (suc n) i (suc k) h =
     value-from f n (suc i) k (le-of-suc-le-suc h) ∙ ap f (suc-add i k ∙ sym (add-suc i k))
-
-abbrev pub values : (ℕ → ℕ) → ℕ → List ℕ
-values f n = valuesFrom 0 f n
 
 pub entry-is : (f : ℕ → ℕ) (n k : ℕ) → k < n → getD (values f n) k 0 ≡ f k
 entry-is f n k h = value-from f n 0 k h ∙ ap f (zero-add k)

@@ -11,7 +11,8 @@ use Rattle.basics.specs.First.{CheckFor, Check, firstOr, appliesAt, answ
 use Rattle.basics.specs.Answer.{Answers}
 use Rattle.basics.specs.Bytes.{twoAt, fourAt, twoBytes, fourBytes}
 use Rattle.basics.specs.Fields.{Width, sizeOf, fieldsAt, fieldBytes}
-use Rattle.basics.proofs.Table.{every, at-entry, values, entry-is}
+use Rattle.basics.specs.Table.{values}
+use Rattle.basics.proofs.Table.{every, at-entry, entry-is}
 use Rattle.basics.proofs.First.{first-given, first-shown, others, none-of, CountedFrom, first-exact, numbered, none-exact}
 use Rattle.basics.proofs.Bytes.{two-back, four-back}
 use Rattle.basics.proofs.Fields.{fields-back, fields-again}

@@ -14,9 +14,10 @@ use Rattle.basics.proofs.First.{never-given, none-of}
 use Rattle.basics.specs.First.{_when_, firstOr}
 use Rattle.pair.specs.Request.{requests, listed, carries}
 use Rattle.pair.specs.Marks.{codeOf, channelOf, bridgedOf, bit5, lineBits}
-use Rattle.pair.specs.Marks.{Finding, nothing, alarmed, marked, pairChecks, finding, isNothing, isAlarm, markIn}
-use Rattle.pair.specs.Marks.{usable, alarm, mark, alarmIn}
-use Rattle.pair.specs.Coder.{sectionsFit, decodingTold, decodingCase, pairOf, decodingOf, decoding}
+use Rattle.pair.specs.Marks.{Finding, nothing, alarmed, marked, checksWith, pairChecks, finding, isNothing, isAlarm, markIn}
+use Rattle.pair.specs.Marks.{usable, alarm, mark, secondUsable, alarmIn}
+use Rattle.pair.specs.Table.{numberFor, listedIn, usableIn}
+use Rattle.pair.specs.Coder.{sectionsFit, decodingTold, decodingCase, pairOf, decodingOf, decodingBy, decoding, decodingLooked}
 use Rattle.pair.specs.Coder.{lineOf, encodingTold, encodingCase, encodable, encoding}
 use Rattle.pair.specs.declared.Pair.{Pair}
 use Rattle.pair.specs.declared.Decoded.{Decoded}
@@ -25,6 +26,7 @@ use Rattle.pair.specs.declared.Encoded.{Encoded}
 use Rattle.pair.specs.declared.Encoded.the-variants as encoded
 use Rattle.pair.proofs.Rows.{carried-below, carried-within, carried-listed}
 use Rattle.pair.proofs.Words.{bitIn, bit-in}
+use Rattle.pair.proofs.Looking.{listed-looked, usable-looked}
 
 -- no fault has mark 0
 abbrev unnamed : Finding → Bool
@@ -32,9 +34,13 @@ unnamed nothing = false
 unnamed alarmed = false
 unnamed (marked m) = eqb m 0
 
+checks-named : (l c : Bool) (n k2 : ℕ) → unnamed (firstOr nothing (checksWith l c n k2)) ≡ false
+checks-named l c n k2 = never-given unnamed nothing (checksWith l c n k2) refl refl
+
 finding-named : (n k1 k2 : ℕ) → unnamed (finding n k1 k2) ≡ false
 unfolding finding
-finding-named n k1 k2 = never-given unnamed nothing (pairChecks n k1 k2) refl refl
+finding-named n k1 k2 =
+    checks-named (listed requests (codeOf k1)) (carries requests n (codeOf k1) (channelOf k1)) n k2
 
 told-back : (k1 k2 : ℕ) (f : Finding) → unnamed f ≡ false
     → decodingTold (decodingCase (decodingOf k1 k2 f)) ≡ decodingOf k1 k2 f
@@ -42,17 +48,21 @@ told-back k1 k2 nothing h = refl
 told-back k1 k2 alarmed h = refl
 told-back k1 k2 (marked m) h = rw h
 
-decoding-whole : (n k1 k2 : ℕ) → decodingTold (decodingCase (decoding n k1 k2)) ≡ decoding n k1 k2
-unfolding decoding
-decoding-whole n k1 k2 = go (sectionsFit n) refl
+decoding-whole : (n k1 k2 : ℕ) (f : Finding) → unnamed f ≡ false
+    → decodingTold (decodingCase (decodingBy n k1 k2 f)) ≡ decodingBy n k1 k2 f
+decoding-whole n k1 k2 f named = go (sectionsFit n) refl
   where
-    go : (t : Bool) → sectionsFit n ≡ t → decodingTold (decodingCase (decoding n k1 k2)) ≡ decoding n k1 k2
-    go true fits = rw fits (told-back k1 k2 (finding n k1 k2) (finding-named n k1 k2))
+    go : (t : Bool) → sectionsFit n ≡ t → decodingTold (decodingCase (decodingBy n k1 k2 f)) ≡ decodingBy n k1 k2 f
+    go true fits = rw fits (told-back k1 k2 f named)
     go false fits = rw fits
 
-pub decoded-by : (n k1 k2 : ℕ) {r : Decoded} → r ≡ decodingCase (decoding n k1 k2)
-    → Answers decodingTold decodingCase (decoding n k1 k2) r
-decoded-by n k1 k2 e = answers (decoding-whole n k1 k2) e
+pub looked-by : (number n k1 k2 : ℕ) {r : Decoded} → r ≡ decodingCase (decodingLooked number n k1 k2)
+    → Answers decodingTold decodingCase (decodingLooked number n k1 k2) r
+unfolding decodingLooked
+looked-by number n k1 k2 e =
+    answers
+    (decoding-whole n k1 k2 (firstOr nothing (checksWith (listedIn number) (usableIn number n) n k2))
+    (checks-named (listedIn number) (usableIn number n) n k2)) e
 
 encoding-whole : (n : ℕ) (p : Pair) → encodingTold (encodingCase (encoding n p)) ≡ encoding n p
 unfolding encoding
@@ -90,14 +100,27 @@ four-bits n p fits h =
     }
 
 -- within 1..14 the answer goes by the finding
+pub fit-by : (n k1 k2 : ℕ) {found f : Finding} → sectionsFit n ≡ true → found ≡ f
+    → decodingCase (decodingBy n k1 k2 found) ≡ decodingCase (decodingOf k1 k2 f)
+fit-by n k1 k2 fits e = rw (fits, e)
+
 pub fit-decoding : (n k1 k2 : ℕ) {f : Finding} → sectionsFit n ≡ true → finding n k1 k2 ≡ f
     → decodingCase (decoding n k1 k2) ≡ decodingCase (decodingOf k1 k2 f)
 unfolding decoding
-fit-decoding n k1 k2 fits e = rw (fits, e)
+fit-decoding n k1 k2 = fit-by n k1 k2
 
-pub unfit-decoding : (n k1 k2 : ℕ) → sectionsFit n ≡ false → decodingCase (decoding n k1 k2) ≡ decoded.Refused 1
-unfolding decoding
-unfit-decoding n k1 k2 other = rw other
+pub unfit-by : (n k1 k2 : ℕ) (found : Finding) → sectionsFit n ≡ false
+    → decodingCase (decodingBy n k1 k2 found) ≡ decoded.Refused 1
+unfit-by n k1 k2 found other = rw other
+
+-- with the number of its K1 a pair decodes as it does
+pub decoding-looked : (n k1 k2 : ℕ) → decodingLooked (numberFor requests k1) n k1 k2 ≡ decoding n k1 k2
+unfolding decodingLooked decoding finding
+decoding-looked n k1 k2 = go (sectionsFit n) refl
+  where
+    go : (t : Bool) → sectionsFit n ≡ t → decodingLooked (numberFor requests k1) n k1 k2 ≡ decoding n k1 k2
+    go true fits = rw (listed-looked requests k1, usable-looked requests k1 n fits)
+    go false fits = rw fits
 
 -- and has its mark and its alarm
 pub fit-found : (n k1 k2 : ℕ) → sectionsFit n ≡ true
@@ -356,13 +379,15 @@ lower-word k2 =
 line-other : (l : ℕ) → eqb l 0b111 ≡ true → eqb l 0b000 || eqb l 0b110 ≡ false
 line-other l e = let seven : l ≡ 0b111 = eqb-true l 0b111 e in rw seven
 
-pub usable-test : (n k1 k2 : ℕ)
-    → carries requests n (codeOf k1) (channelOf k1)
-    && (eqb (bitIn 0b0100000100000000 (k2 % 16)) 1 && leb (bridgedOf k2) n)
-    ≡ usable n k1 k2
+pub second-test : (n k2 : ℕ)
+    → eqb (bitIn 0b0100000100000000 (k2 % 16)) 1 && leb (bridgedOf k2) n ≡ secondUsable n k2
+second-test n k2 = rw (lower-word k2)
+
+-- a pair is usable by its K1 and by its K2
+pub usable-test : (n k1 k2 : ℕ) → carries requests n (codeOf k1) (channelOf k1) && secondUsable n k2 ≡ usable n k1 k2
 unfolding usable finding
 usable-test n k1 k2 =
-    rw (lower-word k2, leb-not (bridgedOf k2) n)
+    rw (leb-not (bridgedOf k2) n)
     (no-fault (eqb (bit5 k2) 0) (eqb (lineBits k2) 0b111) (eqb (lineBits k2) 0b000) (eqb (lineBits k2) 0b110)
     (listed requests (codeOf k1)) (carries requests n (codeOf k1) (channelOf k1)) (ltb n (bridgedOf k2))
     (carried-listed requests n (codeOf k1) (channelOf k1)) (line-other (lineBits k2)))

@@ -15,6 +15,19 @@ unfoldable pub heldIn : List Row → Class → ℕ → Bool
 heldIn [] class code = false
 heldIn (r ∷ rest) class code = eqb code (r .code) && includes (r .channels) class || heldIn rest class code
 
+-- and where none has, there is no rank
+pub unheld : (rows : List Row) (class : Class) (code : ℕ) → heldIn rows class code ≡ false → rankIn rows class code ≡ 0
+unfolding heldIn rankIn
+unheld [] class code none = refl
+unheld (r ∷ rest) class code none =
+    go (eqb code (r .code) && includes (r .channels) class) refl (unheld rest class code)
+  where
+    go : (t : Bool) → eqb code (r .code) && includes (r .channels) class ≡ t
+        → (heldIn rest class code ≡ false → rankIn rest class code ≡ 0)
+        → rankIn (r ∷ rest) class code ≡ 0
+    go true e ih = absurd (false≢true (sym (rw e at none)))
+    go false e ih = rw e (ih (rw e at none))
+
 among-0 : (channels : Channels) (n : ℕ) → among channels n 0 ≡ includes channels channel-0
 among-0 zero-only n = refl
 among-0 sections n = refl

@@ -1,19 +1,23 @@
 -- The front door: what is proved of the coder, each theorem in full with the line that cites its proof.
 use mathlib.Core.Path.{_≡_, refl}
-use mathlib.Core.Bool.{true, false}
-use mathlib.Core.Logic.{_↔_}
+use mathlib.Core.Bool.{true, false, _&&_}
+use mathlib.Core.List.{List}
+use mathlib.Core.Logic.{_↔_, _⊎_}
 use Prim.Native.Nat.{ℕ, _<_, _≤_}
-use lib.ListN.{length}
+use lib.ListN.{length, getD}
 use Rattle.basics.specs.First.{appliesAt, answerOr, FirstAt}
 use Rattle.basics.proofs.First.{first-given, first-shown, none-of}
 use Rattle.basics.proofs.One.{OneAnswer, one-value, one-case}
-use Rattle.pair.specs.Request.{forcedCode, failHighCode, requests, stands, rankOf}
-use Rattle.pair.specs.Marks.{nothing, pairChecks, finding, isNothing, usable, alarm, mark, alarmIn}
-use Rattle.pair.specs.Coder.{sectionsFit, decodingCase, decoding, encodingCase, encodable, encoding}
+use Rattle.pair.specs.Request.{forcedCode, failHighCode, Row, requests, stands, rankOf}
+use Rattle.pair.specs.Marks.{nothing, pairChecks, finding, isNothing, usable, alarm, mark, secondUsable, alarmIn}
+use Rattle.pair.specs.Table.{usableFor, valueIn, numberFor, tableOf, readBy, readIn}
+use Rattle.pair.specs.Coder.{sectionsFit, decodingCase, decoding, decodingLooked, encodingCase, encodable, encoding}
 use Rattle.pair.specs.declared.Pair.{Pair}
 use Rattle.pair.specs.declared.Decoded.the-variants as decoded
 use Rattle.pair.specs.declared.Encoded.the-variants as encoded
-use Rattle.pair.proofs.Coding.{fit-found, pair-back, record-back, record-quiet, encodable-exact, alarm-test}
+use Rattle.pair.proofs.Coding.{fit-found, pair-back, record-back, record-quiet, encodable-exact}
+use Rattle.pair.proofs.Coding.{decoding-looked, usable-test, alarm-test}
+use Rattle.pair.proofs.Looking.{table-read, table-marked, table-usable, table-kinds}
 use Rattle.pair.proofs.Ranks.{rowAt, row-rank, usable-row, fail-outranks, rank-most, rank-own}
 use Rattle.pair.proofs.sections_fit.Kinds as sections-fit-kinds
 use Rattle.pair.proofs.sections_fit.Reads as sections-fit
@@ -31,25 +35,37 @@ use Rattle.pair.proofs.request.rank.Kinds as rank-kinds
 use Rattle.pair.proofs.request.rank.Reads as rank
 use Rattle.pair.proofs.request.rank.Statement as rank-statement
 use Rattle.pair.proofs.request.rank.Met as rank-met
-use Rattle.pair.proofs.request.packed_rank.Kinds as packed-rank-kinds
-use Rattle.pair.proofs.request.packed_rank.Reads as packed-rank
-use Rattle.pair.proofs.request.packed_rank.Statement as packed-rank-statement
-use Rattle.pair.proofs.request.packed_rank.Met as packed-rank-met
-use Rattle.pair.proofs.request.carries.Kinds as carries-kinds
-use Rattle.pair.proofs.request.carries.Reads as carries
-use Rattle.pair.proofs.request.carries.Statement as carries-statement
-use Rattle.pair.proofs.request.carries.Met as carries-met
-use Rattle.pair.proofs.mark.usable.Kinds as usable-kinds
-use Rattle.pair.proofs.mark.usable.Reads as usable-fn
-use Rattle.pair.proofs.mark.usable.Statement as usable-statement
-use Rattle.pair.proofs.mark.usable.Met as usable-met
+use Rattle.pair.proofs.table.value_of.Kinds as value-of-kinds
+use Rattle.pair.proofs.table.value_of.Reads as value-of
+use Rattle.pair.proofs.table.value_of.Statement as value-of-statement
+use Rattle.pair.proofs.table.value_of.Met as value-of-met
+use Rattle.pair.proofs.table.numbers.Kinds as numbers-kinds
+use Rattle.pair.proofs.table.numbers.Reads as numbers
+use Rattle.pair.proofs.table.numbers.Statement as numbers-statement
+use Rattle.pair.proofs.table.numbers.Met as numbers-met
+use Rattle.pair.proofs.table.rank_in.Kinds as rank-in-kinds
+use Rattle.pair.proofs.table.rank_in.Reads as rank-in
+use Rattle.pair.proofs.table.rank_in.Statement as rank-in-statement
+use Rattle.pair.proofs.table.rank_in.Met as rank-in-met
+use Rattle.pair.proofs.table.usable_in.Kinds as usable-in-kinds
+use Rattle.pair.proofs.table.usable_in.Reads as usable-in
+use Rattle.pair.proofs.table.usable_in.Statement as usable-in-statement
+use Rattle.pair.proofs.table.usable_in.Met as usable-in-met
+use Rattle.pair.proofs.decode_looked.Kinds as decode-looked-kinds
+use Rattle.pair.proofs.decode_looked.Reads as decode-looked
+use Rattle.pair.proofs.decode_looked.Statement as decode-looked-statement
+use Rattle.pair.proofs.decode_looked.Met as decode-looked-met
+use Rattle.pair.proofs.mark.second_usable.Kinds as second-usable-kinds
+use Rattle.pair.proofs.mark.second_usable.Reads as second-usable
+use Rattle.pair.proofs.mark.second_usable.Statement as second-usable-statement
+use Rattle.pair.proofs.mark.second_usable.Met as second-usable-met
 use Rattle.pair.proofs.mark.alarm.Kinds as alarm-kinds
 use Rattle.pair.proofs.mark.alarm.Reads as alarm-fn
 use Rattle.pair.proofs.mark.alarm.Statement as alarm-statement
 use Rattle.pair.proofs.mark.alarm.Met as alarm-met
 
 -- Each public function answers what its definition says, for every input. (`statement` is the contract, as the checker
--- reads it off the source; it asks nothing of the caller. The last four are open to the crates above alone.)
+-- reads it off the source; it asks nothing of the caller. The last six are open to the crates above alone.)
 sections-fit-right : {M : Type 1} → sections-fit-statement.statement M
 sections-fit-right = sections-fit-met.met
 
@@ -62,14 +78,23 @@ encode-right = encode-met.met
 rank-right : {M : Type 1} → rank-statement.statement M
 rank-right = rank-met.met
 
-packed-rank-right : {M : Type 1} → packed-rank-statement.statement M
-packed-rank-right = packed-rank-met.met
+value-of-right : {M : Type 1} → value-of-statement.statement M
+value-of-right = value-of-met.met
 
-carries-right : {M : Type 1} → carries-statement.statement M
-carries-right = carries-met.met
+numbers-right : {M : Type 1} → numbers-statement.statement M
+numbers-right = numbers-met.met
 
-usable-right : {M : Type 1} → usable-statement.statement M
-usable-right = usable-met.met
+rank-in-right : {M : Type 1} → rank-in-statement.statement M
+rank-in-right = rank-in-met.met
+
+usable-in-right : {M : Type 1} → usable-in-statement.statement M
+usable-in-right = usable-in-met.met
+
+decode-looked-right : {M : Type 1} → decode-looked-statement.statement M
+decode-looked-right = decode-looked-met.met
+
+second-usable-right : {M : Type 1} → second-usable-statement.statement M
+second-usable-right = second-usable-met.met
 
 alarm-right : {M : Type 1} → alarm-statement.statement M
 alarm-right = alarm-met.met
@@ -122,6 +147,39 @@ found-right = fit-found
 alarm-alone : (n k1 k2 : ℕ) → alarm n k1 k2 ≡ alarmIn k2
 alarm-alone = alarm-test
 
+-- The table of K1 values, of any list of rows (`numbers-right` says that the constant is that of `requests`): for every K1
+-- and every n from 1 to 14 the table's reading, usable with its rank or the mark 3 or 4, is the reading by the rows.
+table-right : (table : List ℕ) (rows : List Row) → table ≡ tableOf rows
+    → (k1 n : ℕ) → k1 < 256 → sectionsFit n ≡ true → readIn (getD table k1 0) n ≡ readBy rows n k1
+table-right = table-read
+
+-- For a value with mark 3 or 4 no n makes it usable, and for another one the usable n are exactly least..greatest. (For one
+-- with a mark that is no n at all: its greatest is 0.) Each value has mark 3, mark 4 or none, and none exactly if its
+-- least n is above 0.
+marked-right : (table : List ℕ) (rows : List Row) → table ≡ tableOf rows
+    → (k1 n : ℕ) → k1 < 256 → sectionsFit n ≡ true →
+    let v = valueIn (getD table k1 0) in
+    (v .mark ≡ 3) ⊎ (v .mark ≡ 4) → usableFor rows k1 n ≡ false
+marked-right = table-marked
+
+usable-exact : (table : List ℕ) (rows : List Row) → table ≡ tableOf rows
+    → (k1 n : ℕ) → k1 < 256 → sectionsFit n ≡ true →
+    let v = valueIn (getD table k1 0) in
+    (usableFor rows k1 n ≡ true) ↔ ((v .least ≤ n) × (n ≤ v .greatest))
+usable-exact = table-usable
+
+marked-complete : (table : List ℕ) (rows : List Row) → table ≡ tableOf rows → (k1 : ℕ) → k1 < 256 →
+    let v = valueIn (getD table k1 0) in
+    ((v .mark ≡ 3) ⊎ (v .mark ≡ 4) ⊎ (v .mark ≡ 0)) × ((v .mark ≡ 0) ↔ (1 ≤ v .least))
+marked-complete = table-kinds
+
+-- With the number of its K1 a pair decodes as it does, and it is usable by its K1 and its K2.
+looked-right : (n k1 k2 : ℕ) → decodingLooked (numberFor requests k1) n k1 k2 ≡ decoding n k1 k2
+looked-right = decoding-looked
+
+usable-apart : (n k1 k2 : ℕ) → usableFor requests k1 n && secondUsable n k2 ≡ usable n k1 k2
+usable-apart = usable-test
+
 -- The request of a usable pair stands in a row of the table, and has the rank of each row that it stands in.
 row-complete : (n k1 k2 : ℕ) (p : Pair) → decodingCase (decoding n k1 k2) ≡ decoded.Usable p
     → (i : ℕ) × (i < length requests) × (stands (rowAt i) n (p .code) (p .channel) ≡ true)
@@ -155,14 +213,22 @@ encode-unique κs args x y s t p q = one-case p q
 rank-unique : OneAnswer 0 rank-kinds.ps rank-kinds.r rank.Post
 rank-unique κs args x y s t p q = one-value p q
 
--- So it is for what is open to the crates above alone: `packed_rank`, `carries`, `usable`, `alarm`.
-shared-unique : OneAnswer 0 packed-rank-kinds.ps packed-rank-kinds.r packed-rank.Post
-    × OneAnswer 0 carries-kinds.ps carries-kinds.r carries.Post
-    × OneAnswer 0 usable-kinds.ps usable-kinds.r usable-fn.Post
+value-of-unique : OneAnswer 0 value-of-kinds.ps value-of-kinds.r value-of.Post
+value-of-unique κs args x y s t p q = one-value p q
+
+-- So it is for what is open to the crates above alone: `numbers`, `rank_in`, `usable_in`, `decode_looked`, `second_usable`,
+-- `alarm`.
+shared-unique : OneAnswer 0 numbers-kinds.ps numbers-kinds.r numbers.Post
+    × OneAnswer 0 rank-in-kinds.ps rank-in-kinds.r rank-in.Post
+    × OneAnswer 0 usable-in-kinds.ps usable-in-kinds.r usable-in.Post
+    × OneAnswer 0 decode-looked-kinds.ps decode-looked-kinds.r decode-looked.Post
+    × OneAnswer 0 second-usable-kinds.ps second-usable-kinds.r second-usable.Post
     × OneAnswer 0 alarm-kinds.ps alarm-kinds.r alarm-fn.Post
 shared-unique = (
   λ κs args x y s t p q. one-value p q,
   λ κs args x y s t p q. one-value p q,
+  λ κs args x y s t p q. one-value p q,
+  λ κs args x y s t p q. one-case p q,
   λ κs args x y s t p q. one-value p q,
   λ κs args x y s t p q. one-value p q,
 )

@@ -3,8 +3,11 @@ use mathlib.Core.Bool.{Bool, true, false, _&&_}
 use Prim.Native.Nat.{ℕ, _+_, _*_}
 use lib.Dec.{leb, eqb}
 use Rattle.basics.specs.Choice.{if_then_else_}
+use Rattle.basics.specs.First.{firstOr}
 use Rattle.pair.specs.Request.{requests, carries}
-use Rattle.pair.specs.Marks.{codeOf, channelOf, bridgedOf, lineBits, Finding, nothing, alarmed, marked, finding}
+use Rattle.pair.specs.Marks.{codeOf, channelOf, bridgedOf, lineBits}
+use Rattle.pair.specs.Marks.{Finding, nothing, alarmed, marked, checksWith, finding}
+use Rattle.pair.specs.Table.{listedIn, usableIn}
 use Rattle.pair.specs.declared.Pair.{Pair}
 use Rattle.pair.specs.declared.Decoded.{Decoded}
 use Rattle.pair.specs.declared.Decoded.the-variants as decoded
@@ -72,8 +75,16 @@ decodingOf k1 k2 alarmed = alone 0 0 true
 decodingOf k1 k2 (marked m) = alone 0 m false
 
 -- n is looked at first
+abbrev pub decodingBy : ℕ → ℕ → ℕ → Finding → Decoding
+decodingBy n k1 k2 found = if sectionsFit n then decodingOf k1 k2 found else alone 1 0 false
+
 unfoldable pub decoding : ℕ → ℕ → ℕ → Decoding
-decoding n k1 k2 = if sectionsFit n then decodingOf k1 k2 (finding n k1 k2) else alone 1 0 false
+decoding n k1 k2 = decodingBy n k1 k2 (finding n k1 k2)
+
+-- the same, where K1 is read off a number of the table
+unfoldable pub decodingLooked : ℕ → ℕ → ℕ → ℕ → Decoding
+decodingLooked number n k1 k2 =
+    decodingBy n k1 k2 (firstOr nothing (checksWith (listedIn number) (usableIn number n) n k2))
 
 -- the line bits of a record: 110 for a remote defect
 abbrev pub lineOf : Bool → ℕ

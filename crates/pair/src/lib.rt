@@ -1,11 +1,14 @@
 // The coder of the K1/K2 bytes (01, 'The byte pair'; G.841, Tables 7-1 and 7-2).
 pub mod mark;
 pub mod request;
+pub mod table;
 
-use crate::request::carries;
-use crate::request::listed;
+use crate::table::carried;
+use crate::table::listed_in;
+use crate::table::number_for;
+use crate::table::usable_in;
 ghost use Rattle.basics.specs.Answer.{Answers};
-ghost use Rattle.pair.specs.Coder.{sectionsFit, decodingTold, decodingCase, decoding};
+ghost use Rattle.pair.specs.Coder.{sectionsFit, decodingTold, decodingCase, decoding, decodingLooked};
 ghost use Rattle.pair.specs.Coder.{lineOf, encodingTold, encodingCase, encoding};
 ghost use mathlib.Core.Path.{_≡_};
 
@@ -32,23 +35,38 @@ pub enum Encoded {
     Refused(u8),
 }
 
+// What the table of K1 values holds of one (02, j): its rank and the least and the greatest n for which it is usable, or the
+// mark 3 or 4 where no n makes it so.
+pub struct Value {
+    pub rank: u8,
+    pub least: u8,
+    pub greatest: u8,
+    pub mark: u8,
+}
+
 pub fn sections_fit(n: u8) -> bool
     ensures { λ r. ⌜ r ≡ sectionsFit n ⌝ }
 {
     (1 <= n) & (n <= 14)
 }
 
-// The paper's order of checking.
 pub fn decode(n: u8, k1: u8, k2: u8) -> Decoded
     ensures { λ r. ⌜ Answers decodingTold decodingCase (decoding n k1 k2) r ⌝ }
+{
+    decode_looked(number_for(k1), n, k1, k2)
+}
+
+// The paper's order of checking; K1 has been looked up.
+pub fn decode_looked(number: u16, n: u8, k1: u8, k2: u8) -> Decoded
+    ensures { λ r. ⌜ Answers decodingTold decodingCase (decodingLooked number n k1 k2) r ⌝ }
 {
     let n_fits = sections_fit(n);
     if !n_fits {
         return Decoded::Refused(1);
     }
     let line = k2 % 8;
-    let code_listed = listed(k1 / 16);
-    let channel_carried = carries(n, k1 / 16, k1 % 16);
+    let code_listed = listed_in(number);
+    let channel_carried = usable_in(number, n);
     let bridged_above = n < k2 / 16;
     if k2 / 8 % 2 == 0 {
         return Decoded::Marked(1);
@@ -89,7 +107,7 @@ pub fn encode(n: u8, p: Pair) -> Encoded
         let code = p.code;
         let channel = p.channel;
         let bridged = p.bridged;
-        if carries(n, code, channel) & (bridged <= n) {
+        if carried(n, code, channel) & (bridged <= n) {
             let line = line_bits(p.remote);
             Encoded::Bytes(code * 16 + channel, bridged * 16 + 0b1000 + line)
         } else {

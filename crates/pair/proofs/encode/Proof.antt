@@ -9,8 +9,8 @@ use Rattle.pair.proofs.encode.Tie as tie
 sections-fit-requires : tie.Need-sections-fit-requires
 sections-fit-requires c κs = search needs
 
-carries-requires : tie.Need-carries-requires
-carries-requires c κs = search needs
+carried-requires : tie.Need-carried-requires
+carried-requires c κs = rw (← c .before .sections-fit .ensures) (c .if1 .taken)
 
 line-bits-requires : tie.Need-line-bits-requires
 line-bits-requires c κs = search needs
@@ -20,7 +20,7 @@ room c =
     let a = c .before .before .before .before .before .args in
     four-bits (a .n) (a .p)
     (rw (← c .before .before .before .before .sections-fit .ensures) (c .before .before .before .if1 .taken))
-    (rw (← c .before .before .carries .ensures) (c .before .if2 .taken))
+    (rw (← c .before .before .carried .ensures) (c .before .if2 .taken))
 
 mul-t13 : tie.Need-mul-t13
 mul-t13 c = let b = room c in omega arith
@@ -47,7 +47,7 @@ returns c =
     (simp (
       ← c .line-bits .ensures,
       c .before .if2 .taken,
-      ← c .before .before .carries .ensures,
+      ← c .before .before .carried .ensures,
       c .before .before .before .if1 .taken,
       ← c .before .before .before .before .sections-fit .ensures,
     ))
@@ -59,7 +59,7 @@ returns-2 c =
     encoded-by (a .n) (a .p)
     (simp (
       c .if2 .left,
-      ← c .before .carries .ensures,
+      ← c .before .carried .ensures,
       c .before .before .if1 .taken,
       ← c .before .before .before .sections-fit .ensures,
     ))
@@ -77,7 +77,7 @@ encode-spec =
     tie.close
     (tie.spec
     sections-fit-requires
-    carries-requires
+    carried-requires
     line-bits-requires
     mul-t13
     add-t14
