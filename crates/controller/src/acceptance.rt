@@ -3,10 +3,12 @@ use crate::Accepted;
 use crate::Controller;
 use crate::asked::asked;
 use pair::Decoded;
-use pair::decode;
+use pair::decode_looked;
 use request::Request;
 ghost use Rattle.controller.specs.Rules.{accepted, accepting};
 ghost use Rattle.pair.specs.Coder.{sectionsFit, decodingTold};
+ghost use Rattle.pair.specs.Request.{requests};
+ghost use Rattle.pair.specs.Table.{numberFor};
 ghost use mathlib.Core.Bool.{true};
 ghost use mathlib.Core.Path.{_≡_};
 
@@ -35,14 +37,15 @@ fn accepted(k1: u8, k2: u8, m: u8) -> Accepted
     }
 }
 
-pub(crate) fn accepting(s: Controller, failed: bool, k1: u8, k2: u8) -> Accepted
-    requires { ⌜ sectionsFit (s .n) ≡ true ⌝ }
+// `received` is the number of the K1.
+pub(crate) fn accepting(s: Controller, failed: bool, received: u16, k1: u8, k2: u8) -> Accepted
+    requires { ⌜ (sectionsFit (s .n) ≡ true) × (received ≡ numberFor requests k1) ⌝ }
     ensures { λ r. ⌜ r ≡ accepting s failed k1 k2 ⌝ }
 {
     if failed {
         return accepted(Controller::IDLE_K1, Controller::IDLE_K2, 0);
     }
-    let d = decode(s.n, k1, k2);
+    let d = decode_looked(received, s.n, k1, k2);
     let Decoded::Usable(p) = d else {
         return accepted(s.k1, s.k2, mark_in(d));
     };

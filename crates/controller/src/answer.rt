@@ -26,6 +26,8 @@ ghost use Rattle.controller.specs.Refusals.{refusal};
 ghost use Rattle.controller.specs.Rules.{keepsBridge};
 ghost use Rattle.controller.specs.Step.{refusedStep, answering, moved, actsOn};
 ghost use Rattle.pair.specs.Marks.{alarm};
+ghost use Rattle.pair.specs.Request.{requests};
+ghost use Rattle.pair.specs.Table.{numberFor};
 ghost use Rattle.request.specs.Order.{same};
 ghost use mathlib.Core.Path.{_≡_};
 
@@ -88,15 +90,23 @@ fn answering(s: Controller, far: Accepted, sent: Request, wait: u16, fate: u8) -
     }
 }
 
-pub(crate) fn moved(s: Controller, k1: u8, k2: u8, conditions: &[u8], command: u8, c: u8) -> Outcome
-    requires { ⌜ refusal s (now conditions) command c ≡ 0 ⌝ }
+pub(crate) fn moved(
+    s: Controller,
+    received: u16,
+    k1: u8,
+    k2: u8,
+    conditions: &[u8],
+    command: u8,
+    c: u8,
+) -> Outcome
+    requires { ⌜ (refusal s (now conditions) command c ≡ 0) × (received ≡ numberFor requests k1) ⌝ }
     ensures { λ r. ⌜ r ≡ moved s k1 k2 (actsOn (alarm (s .n) k1 k2) (now (conditions .entry))) command c ⌝ }
 {
     let handed = conditions[0];
     let protect = protection(alarm(k2), handed);
     let k1_sent = s.sent;
     let last = asked(k1_sent);
-    let far = accepting(s, protect == 2, k1, k2);
+    let far = accepting(s, protect == 2, received, k1, k2);
     let hold = kept(command, held(last));
     let new = given(command, c);
     let replaced = replaces_held(hold, new);

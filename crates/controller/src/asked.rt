@@ -1,4 +1,5 @@
 // What is asked for: requests, as a K1 has them.
+use crate::codes::NOTHING;
 use pair::request::rank;
 use request::Request;
 ghost use Rattle.controller.specs.Rules.{asked, rankOfRequest};
@@ -16,5 +17,10 @@ pub fn asked(k1: u8) -> Request
 pub(crate) fn rank_of(r: Request) -> u8
     ensures { λ k. ⌜ k ≡ rankOfRequest r ⌝ }
 {
-    rank(r.code, r.channel)
+    // NR, which most of what is asked for is on a quiet line, need not be looked up.
+    if r.code == NOTHING {
+        0
+    } else {
+        rank(r.code, r.channel)
+    }
 }

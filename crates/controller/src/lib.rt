@@ -13,6 +13,7 @@ use crate::answer::moved;
 use crate::answer::refused_step;
 use crate::refusal::refusal_of;
 use crate::refusal::settings_refusal;
+use pair::table::numbers;
 use request::Request;
 ghost use Rattle.basics.specs.Answer.{Answers};
 ghost use Rattle.controller.specs.Settings.{makingTold, makingCase, making};
@@ -60,9 +61,16 @@ impl Controller {
     pub fn step(self, k1: u8, k2: u8, conditions: &[u8], command: u8, channel: u8) -> Outcome
         ensures { λ r. ⌜ r ≡ step self k1 k2 (now (conditions .entry)) command channel ⌝ }
     {
-        let refusal = refusal_of(self, conditions, command, channel);
+        // One look for each of the three K1 values of a step.
+        let table = numbers();
+        let k1_accepted = self.k1;
+        let k1_sent = self.sent;
+        let accepted = table[k1_accepted as usize];
+        let sent = table[k1_sent as usize];
+        let received = table[k1 as usize];
+        let refusal = refusal_of(self, accepted, sent, conditions, command, channel);
         if refusal == 0 {
-            moved(self, k1, k2, conditions, command, channel)
+            moved(self, received, k1, k2, conditions, command, channel)
         } else {
             refused_step(refusal, self)
         }

@@ -6,14 +6,16 @@ use crate::codes::FAIL_HIGH;
 use crate::codes::FAIL_LOW;
 use crate::section::high;
 use crate::wait::is_wait;
-use pair::mark::usable;
-use pair::request::carries;
+use pair::mark::second_usable;
 use pair::sections_fit;
+use pair::table::usable_in;
 ghost use Rattle.basics.specs.First.{firstOf};
 ghost use Rattle.controller.specs.Refusals.{otherPriority, againstMask, waitFits, acceptable};
 ghost use Rattle.controller.specs.Refusals.{conditionsFit, channelFits, refusal};
 ghost use Rattle.controller.specs.Settings.{maskFits, settingsFaults};
 ghost use Rattle.pair.specs.Coder.{sectionsFit};
+ghost use Rattle.pair.specs.Request.{requests};
+ghost use Rattle.pair.specs.Table.{numberFor};
 ghost use mathlib.Core.Bool.{true};
 ghost use mathlib.Core.Path.{_≡_};
 
@@ -64,13 +66,15 @@ fn wait_fits(code: u8, w: u16, left: u16) -> bool
     }
 }
 
-fn acceptable(s: Controller) -> bool
+// `accepted` and `sent` are the numbers of the accepted K1 and of the one last sent.
+fn acceptable(s: Controller, accepted: u16, sent: u16) -> bool
+    requires { ⌜ (sectionsFit (s .n) ≡ true) × (accepted ≡ numberFor requests (s .k1)) × (sent ≡ numberFor requests (s .sent)) ⌝ }
     ensures { λ r. ⌜ r ≡ acceptable s ⌝ }
 {
     let code = s.sent / 16;
     let channel = s.sent % 16;
-    let pair_usable = usable(s.n, s.k1, s.k2);
-    let in_table = carries(s.n, code, channel);
+    let pair_usable = usable_in(accepted, s.n) & second_usable(s.n, s.k2);
+    let in_table = usable_in(sent, s.n);
     let against = against_mask(s.mask, code, channel);
     let wait_good = wait_fits(code, s.w, s.left);
     pair_usable & in_table & !against & wait_good
@@ -99,7 +103,15 @@ fn channel_fits(n: u8, command: u8, c: u8) -> bool
     }
 }
 
-pub(crate) fn refusal_of(s: Controller, conditions: &[u8], command: u8, c: u8) -> u8
+pub(crate) fn refusal_of(
+    s: Controller,
+    accepted: u16,
+    sent: u16,
+    conditions: &[u8],
+    command: u8,
+    c: u8,
+) -> u8
+    requires { ⌜ (accepted ≡ numberFor requests (s .k1)) × (sent ≡ numberFor requests (s .sent)) ⌝ }
     ensures { λ r. ⌜ r ≡ refusal s (now (conditions .entry)) command c ⌝ }
 {
     let n = s.n;
@@ -107,7 +119,7 @@ pub(crate) fn refusal_of(s: Controller, conditions: &[u8], command: u8, c: u8) -
     if settings != 0 {
         return settings;
     }
-    let record_good = acceptable(s);
+    let record_good = acceptable(s, accepted, sent);
     if !record_good {
         return 3;
     }

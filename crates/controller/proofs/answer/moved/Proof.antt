@@ -22,7 +22,7 @@ use Rattle.controller.proofs.answer.moved.Statement.{statement}
 use Rattle.controller.proofs.answer.moved.Tie as tie
 
 well : (c : tie.Start) → WellFormed (c .args .s) (c .args .conditions .now) (c .args .command) (c .args .c)
-well c = well-formed (c .args .s) (c .args .conditions .now) (c .args .command) (c .args .c) (c .pre)
+well c = well-formed (c .args .s) (c .args .conditions .now) (c .args .command) (c .args .c) (c .pre .0)
 
 -- what the step acts on
 abbrev actsOf : tie.Start → List ℕ
@@ -32,7 +32,7 @@ acts-well : (c : tie.Start) → WellFormed (c .args .s) (actsOf c) (c .args .com
 acts-well c =
     let a = c .args in
     well-formed (a .s) (actsOf c) (a .command) (a .c)
-    (acts-unrefused (a .s) (a .command) (a .c) (alarm (a .s .n) (a .k1) (a .k2)) (a .conditions .now) (c .pre))
+    (acts-unrefused (a .s) (a .command) (a .c) (alarm (a .s .n) (a .k1) (a .k2)) (a .conditions .now) (c .pre .0))
 
 protects : (c : tie.After-protection) → c .protection .result ≡ protection (actsOf (c .before .before .before .before))
 protects c =
@@ -107,7 +107,8 @@ asked-requires : tie.Need-asked-requires
 asked-requires c κs = search needs
 
 accepting-requires : tie.Need-accepting-requires
-accepting-requires c κs = well (c .before .before .before .before .before) .fits
+accepting-requires c κs =
+    let start = c .before .before .before .before .before in (well start .fits, start .pre .1)
 
 held-requires : tie.Need-held-requires
 held-requires c κs = search needs

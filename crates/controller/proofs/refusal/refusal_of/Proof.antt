@@ -7,7 +7,7 @@ use borrow.Author.Tests.{eq-eqb, ne-eqb, lt-ltb, le-ltb}
 use Rattle.basics.specs.Choice.{if_then_else_}
 use Rattle.basics.specs.First.{firstOf}
 use Rattle.controller.specs.Refusals.{stepFaults, refusal}
-use Rattle.controller.proofs.Inputs.{refusal-by-settings}
+use Rattle.controller.proofs.Inputs.{refusal-by-settings, settings-fit}
 use borrow.Author.Needs.{needs}
 use Rattle.controller.proofs.refusal.refusal_of.Statement.{statement}
 use Rattle.controller.proofs.refusal.refusal_of.Tie as tie
@@ -56,7 +56,11 @@ returns c =
     sym (by-settings (c .before) ∙ simp (ne-eqb (c .before .settings-refusal .result) 0 (c .if1 .taken)))
 
 acceptable-requires : tie.Need-acceptable-requires
-acceptable-requires c κs = search needs
+acceptable-requires c κs =
+    let start = c .before .before .before in
+    let s = start .args .s in
+    let none = sym (c .before .settings-refusal .ensures) ∙ c .if1 .left in
+    (settings-fit (s .n) (s .mask) none .0, start .pre .0, start .pre .1)
 
 returns-2 : tie.Need-returns-2
 returns-2 c = sym (left-1 (c .before .before) ∙ simp (c .if2 .taken, ← c .before .acceptable .ensures))
