@@ -3,6 +3,7 @@ use mathlib.Core.Path.{_≡_, refl, sym, subst, _∙_}
 use mathlib.Core.Bool.{Bool, true, false}
 use mathlib.Core.List.{List}
 use Prim.Native.Nat.{ℕ, _%_, _≤_}
+use native.Mathlib.Omega.{arith}
 use lib.Dec.{eqb}
 use lib.ListN.{length}
 use borrow.Author.Tests.{eqb-true, eqb-false, ltb-false, ne-eqb, not-false}
@@ -13,7 +14,7 @@ use Rattle.controller.specs.Settings.{maskFits, fresh, settingsFaults}
 use Rattle.controller.proofs.Inputs.{settings-fit}
 use Rattle.explain.specs.Capture.{rowsOf}
 use Rattle.explain.specs.Verdict.{Judging, refusedBy, sizeFaults, judgeFaults, most, Right}
-use Rattle.explain.specs.Trace.{scanned}
+use Rattle.explain.specs.Trace.{start, Fit, scanned}
 use Rattle.explain.proofs.Exact.{scan-right}
 
 -- what refusals 8 and 9 leave of a capture's size
@@ -21,6 +22,10 @@ pub size-fits : (size : ℕ) → firstOf (sizeFaults size) ≡ 0 → (size % 4 �
 size-fits size h =
     let none = none-exact (sizeFaults size) refl .0 h in
     (eqb-true (size % 4) 0 (not-false (eqb (size % 4) 0) (none 0)), ltb-false most size (none 1))
+
+-- the scan begins with a fresh record, whose K1 values have channel 0
+pub fresh-fit : (n mask w : ℕ) → sectionsFit n ≡ true → Fit (start (fresh n mask w))
+fresh-fit n mask w fits = record { sections = fits; sent = omega arith; accepted = omega arith }
 
 module _ (n mask w : ℕ) (bytes : List ℕ) where
   abbrev refusal : ℕ

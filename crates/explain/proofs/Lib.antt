@@ -10,6 +10,7 @@ mod Alarmed
 mod Reached
 mod Possible
 pub mod Exact
+mod Ranked
 mod Walking
 mod Judged
 mod Computed

@@ -19,7 +19,7 @@ use Rattle.explain.specs.Explained.{Cause, stepped, Sends}
 use Rattle.explain.specs.Trace.{idled, live, opens, localIn, hiddenIn, recordAfter, acceptedByte, next}
 use Rattle.explain.specs.declared.Records.{Records}
 use Rattle.explain.proofs.Alarmed.{quieted, alarm-exact}
-use Rattle.explain.proofs.Reached.{Able, hidden-carried, Reached, far-accepted, failed-reached, sends-reached, failed-sends, reached-sends}
+use Rattle.explain.proofs.Reached.{Able, Reached, far-accepted, failed-reached, sends-reached, failed-sends, reached-sends}
 
 -- the records that the flags leave open
 abbrev pub In : Records → Controller → Type 0
@@ -88,14 +88,10 @@ module _ (d : Records) (r : Row) where
   abbrev sendable : Bool
   sendable = carries requests (base .n) (x .code) (x .channel)
 
-  -- nothing is left, since what is sent under a failed section 0 stands in the table
+  -- nothing is left
   next-lost : sendable ≡ false → (next d r .heard ≡ false) × (next d r .idle ≡ false)
   unfolding next
-  next-lost e = (rw e, rw (e, go hidden refl))
-    where
-      go : (t : Bool) → hidden ≡ t → hidden ≡ false
-      go true h = absurd (false≢true (sym e ∙ hidden-carried base x (r .sentK2) (base .n) h))
-      go false h = h
+  next-lost e = (rw e, rw e)
 
   next-replaced : sendable ≡ true → alarmIn (r .k2) ≡ false → fits ≡ true → next d r ≡ replaced
   unfolding next

@@ -1,6 +1,6 @@
 -- From requests to bytes: the records that a controller can have after a row, by the closed forms over the row's bytes.
 use mathlib.Core.Path.{_≡_, refl, sym, ap, subst, _∙_}
-use mathlib.Core.Bool.{Bool, true, false, _&&_, _||_, and-eq-true-iff}
+use mathlib.Core.Bool.{Bool, true, false, _&&_, and-eq-true-iff}
 use mathlib.Core.Logic.{_⊎_, inl, inr, ⊎-elim}
 use Prim.Native.Nat.{ℕ, _+_}
 use native.Mathlib.Omega.{arith}
@@ -11,17 +11,15 @@ use Rattle.basics.specs.Choice.{if_then_else_}
 use Rattle.pair.specs.Request.{requests, carries}
 use Rattle.pair.specs.Marks.{codeOf, channelOf, usable, alarm, mark}
 use Rattle.pair.specs.Coder.{sectionsFit}
-use Rattle.pair.proofs.Rows.{heldIn, carries-0}
 use Rattle.pair.proofs.Coding.{usable-parts}
 use Rattle.request.specs.Bridge.{bridge}
 use Rattle.request.specs.declared.Request.{Request}
 use Rattle.request.proofs.Channels.{bridge-within}
-use Rattle.request.proofs.Order.{or-true}
 use Rattle.controller.specs.Settings.{maskFits, idleK1, idleK2}
 use Rattle.controller.specs.Rules.{asked, accepted, accepting, held, isWait, decided, leftAfter, keepsBridge}
 use Rattle.controller.specs.Rules.{k1Of, k2Of}
 use Rattle.controller.specs.Refusals.{acceptable, refusal}
-use Rattle.controller.specs.Step.{protection, waitOf, moved, step}
+use Rattle.controller.specs.Step.{protection, waitOf, moved}
 use Rattle.controller.specs.declared.Controller.{Controller}
 use Rattle.controller.specs.declared.Outcome.{Outcome}
 use Rattle.controller.proofs.Inputs.{WellFormed, well-formed}
@@ -50,22 +48,6 @@ able-next s cause r a sends =
       mask-fits = rw (k .sections, k .priorities) (a .mask-fits);
       accepts = k .accepts;
     }
-
--- what is sent under a failed section 0 stands in the table
-pub hidden-carried : (s : Controller) (x : Request) (k2 n : ℕ) → hiddenIn s x k2 ≡ true
-    → carries requests n (x .code) (x .channel) ≡ true
-unfolding unseen heldIn
-hidden-carried s x k2 n h =
-    let command = commanded (held (asked (s .sent))) (held x) in
-    let fail = eqb (x .code) 0b1101 in
-    let lock = eqb (x .code) 0b1111 in
-    let two = and-eq-true-iff (unseen command x) (secondFits k2 0) .0 h .0 in
-    let parts = and-eq-true-iff (eqb (x .channel) 0) (fail || lock && command) .0 two in
-    let zero : x .channel ≡ 0 = eqb-true (x .channel) 0 (parts .0) in
-    rw (zero, carries-0 requests n (x .code))
-    (⊎-elim (λ f. let e : x .code ≡ 0b1101 = eqb-true (x .code) 0b1101 f in rw e)
-    (λ l. let e : x .code ≡ 0b1111 = eqb-true (x .code) 0b1111 (and-eq-true-iff lock command .0 l .0) in rw e)
-    (or-true fail (lock && command) (parts .1)))
 
 k1-whole : (k1 : ℕ) → k1Of (asked k1) ≡ k1
 k1-whole k1 = omega arith

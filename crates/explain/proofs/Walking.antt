@@ -10,8 +10,9 @@ use lib.Seq.{drop-cons}
 use Rattle.explain.specs.Capture.{Row, row, rowsOf}
 use Rattle.explain.specs.Verdict.{most}
 use Rattle.explain.specs.Scan.{all, first, scanFrom}
-use Rattle.explain.specs.Trace.{live, next, verdictOf}
+use Rattle.explain.specs.Trace.{live, next, Fit, verdictOf}
 use Rattle.explain.specs.declared.Records.{Records}
+use Rattle.explain.proofs.Ranked.{next-fit}
 
 -- at a step, behind the bytes of those before it
 pub record Walk (bytes : List ℕ) (begin possible : Records) (step at : ℕ) : Type 0 where
@@ -19,14 +20,15 @@ pub record Walk (bytes : List ℕ) (begin possible : Records) (step at : ℕ) : 
   pub within : at ≤ length bytes
   pub whole : length bytes % 4 ≡ 0
   pub small : length bytes ≤ most
+  pub fit : Fit possible
   pub remains :
       verdictOf (scanFrom next live step possible (rowsOf (drop at bytes)))
       ≡ verdictOf (scanFrom next live 0 begin (rowsOf bytes))
 
 pub walk-start : (bytes : List ℕ) (begin : Records) → length bytes % 4 ≡ 0
-    → length bytes ≤ most → Walk bytes begin begin 0 0
-walk-start bytes begin whole small =
-    record { place = refl; within = zero-le; whole = whole; small = small; remains = refl }
+    → length bytes ≤ most → Fit begin → Walk bytes begin begin 0 0
+walk-start bytes begin whole small fit =
+    record { place = refl; within = zero-le; whole = whole; small = small; fit = fit; remains = refl }
 
 module _ {bytes : List ℕ} {begin possible : Records} {step at : ℕ} (w : Walk bytes begin possible step at) where
   abbrev here : Row
@@ -87,6 +89,7 @@ module _ {bytes : List ℕ} {begin possible : Records} {step at : ℕ} (w : Walk
         within = whole-step h;
         whole = w .whole;
         small = w .small;
+        fit = next-fit possible here (w .fit) goes;
         remains =
             ap (λ (k : ℕ). verdictOf (scanFrom next live k (next possible here) rest)) (add-one step)
             ∙ (rw goes at (step-here h));

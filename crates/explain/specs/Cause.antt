@@ -1,19 +1,30 @@
 -- What some cause makes a controller send: closed forms, over the command held before the step and the one held after it.
+-- The forms `..At` take the rank of what is sent; the others look it up.
 use mathlib.Core.Bool.{Bool, not, _&&_, _||_}
 use Prim.Native.Nat.{ℕ}
 use lib.Dec.{leb, eqb}
-use Rattle.pair.specs.Request.{lockoutCode, failHighCode, reverseCode, nothingCode, rankOf}
-use Rattle.request.specs.Order.{mayWin, byRank, same}
+use Rattle.basics.specs.Choice.{if_then_else_}
+use Rattle.pair.specs.Request.{lockoutCode, failHighCode, reverseCode, nothingCode}
+use Rattle.request.specs.Order.{mayWin, better, same}
+use Rattle.request.specs.Command.{replaces}
 use Rattle.request.specs.declared.Request.{Request}
-use Rattle.controller.specs.Rules.{rankOfRequest, replacesHeld, condition, isWait}
+use Rattle.controller.specs.Rules.{rankOfRequest, condition, isWait}
 
--- a command was held before, or replaces the one that was
-abbrev pub follows : Request → Request → Bool
-follows hold after = same after hold || replacesHeld hold after
+-- a command goes on, or its rank lets it replace the one that was held
+abbrev pub follows : Bool → ℕ → ℕ → Bool
+follows goesOn prior rank = goesOn || replaces prior rank
 
 -- a command is held afterwards, and follows
+abbrev pub commandedAt : ℕ → Request → Request → Bool
+commandedAt rank hold after =
+    not (eqb (after .code) nothingCode) && follows (same after hold) (rankOfRequest hold) rank
+
 abbrev pub commanded : Request → Request → Bool
-commanded hold after = not (eqb (after .code) nothingCode) && follows hold after
+commanded hold after = commandedAt (rankOfRequest after) hold after
+
+-- the rank of a held command, where this is what it would have
+abbrev pub rankHeld : Request → ℕ → ℕ
+rankHeld hold rank = if eqb (hold .code) nothingCode then 0 else rank
 
 -- a degraded section asks for it, or a failed one but section 0
 abbrev pub conditioned : ℕ → Request → Bool
@@ -33,8 +44,11 @@ arises mask command now last x = eqb (x .code) nothingCode || command || conditi
 unfoldable pub unseen : Bool → Request → Bool
 unseen command x = eqb (x .channel) 0 && (eqb (x .code) failHighCode || eqb (x .code) lockoutCode && command)
 
--- it is RR to what the far end asks for, or a local request that the far end does not beat
-unfoldable pub answers : Request → Request → Bool → Bool
-answers far x local =
+-- it is RR to what the far end asks for, or a local request of this rank that the far end does not beat
+abbrev pub answersAt : ℕ → Request → Request → Bool → Bool
+answersAt rank far x local =
     eqb (x .code) reverseCode && mayWin (rankOfRequest far) && eqb (far .channel) (x .channel)
-    || local && not (byRank rankOf far x)
+    || local && not (better (rankOfRequest far) (far .channel) rank (x .channel))
+
+unfoldable pub answers : Request → Request → Bool → Bool
+answers far x local = answersAt (rankOfRequest x) far x local

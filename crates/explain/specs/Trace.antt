@@ -1,13 +1,15 @@
 -- What the bytes of a capture leave open of the controller's record. The K1 last sent and the wait left follow from what was
 -- sent. The accepted pair is the last usable one received or, since section 0 may have failed unseen, 00 08; an alarm that
 -- is received shows that it has failed.
+use mathlib.Core.Path.{_≡_}
 use mathlib.Core.Bool.{Bool, true, false, not, _&&_, _||_}
 use mathlib.Core.List.{List}
-use Prim.Native.Nat.{ℕ}
+use Prim.Native.Nat.{ℕ, _≤_}
 use lib.Dec.{eqb}
 use Rattle.basics.specs.Choice.{if_then_else_}
 use Rattle.pair.specs.Request.{requests, carries}
 use Rattle.pair.specs.Marks.{channelOf, usable, alarmIn}
+use Rattle.pair.specs.Coder.{sectionsFit}
 use Rattle.request.specs.Bridge.{bridge}
 use Rattle.request.specs.declared.Request.{Request}
 use Rattle.controller.specs.Settings.{idleK1, idleK2}
@@ -15,11 +17,10 @@ use Rattle.controller.specs.Rules.{asked, held, leftAfter, keepsBridge, k2Of}
 use Rattle.controller.specs.Step.{waitOf}
 use Rattle.controller.specs.declared.Controller.{Controller}
 use Rattle.explain.specs.Capture.{Row, rowsOf}
-use Rattle.explain.specs.Cause.{commanded, arises, unseen, answers}
+use Rattle.explain.specs.Cause.{commanded, arises, unseen, answersAt, answers}
 use Rattle.explain.specs.Scan.{Scanned, all, first, scanFrom}
 use Rattle.explain.specs.Verdict.{Judging, explainedAt, unexplainedAt}
 use Rattle.explain.specs.declared.Records.{Records}
-use Rattle.explain.specs.declared.Seen.{Seen}
 
 -- the record with 00 08 accepted
 abbrev pub idled : Controller → Controller
@@ -36,10 +37,15 @@ live d = d .heard || d .idle
 abbrev pub secondFits : ℕ → ℕ → Bool
 secondFits k2 bridged = eqb k2 (k2Of bridged)
 
--- the pair is sent by a controller that has accepted the K1
+-- the pair is sent by a controller that has accepted the K1, where that answers it
+abbrev pub opensBy : Bool → ℕ → Request → ℕ → Bool
+opensBy answered k1 x k2 = answered && secondFits k2 (bridge (channelOf k1) (x .channel) (keepsBridge x))
+
+abbrev pub opensAt : ℕ → ℕ → Request → ℕ → Bool → Bool
+opensAt rank k1 x k2 local = opensBy (answersAt rank (asked k1) x local) k1 x k2
+
 abbrev pub opens : ℕ → Request → ℕ → Bool → Bool
-opens k1 x k2 local =
-    answers (asked k1) x local && secondFits k2 (bridge (channelOf k1) (x .channel) (keepsBridge x))
+opens k1 x k2 local = opensBy (answers (asked k1) x local) k1 x k2
 
 -- the command held before the step and the one held after it allow each other
 abbrev pub commandIn : Controller → Request → Bool
@@ -68,37 +74,42 @@ recordAfter s now k1 k2 sentK1 =
       left = leftAfter (asked sentK1) now;
     }
 
--- what a sent pair says, whatever was accepted
-abbrev pub seenIn : Controller → ℕ → ℕ → Seen
-seenIn s sentK1 sentK2 =
-    let x = asked sentK1 in
-    record {
-      request = x;
-      now = waitOf s (asked (s .sent)) 0;
-      local = localIn s x;
-      hidden = hiddenIn s x sentK2;
-    }
-
 -- a byte of the accepted pair: the received one's, if that is usable, else the one before
 abbrev pub acceptedByte : Bool → ℕ → ℕ → ℕ
 acceptedByte fits received before = if fits then received else before
 
--- the sent K1 stands in the table, as what is sent under a failed section 0 does; with a usable pair received that pair is
--- accepted, unless section 0 has failed; and with an alarm received section 0 has failed
-unfoldable pub next : Records → Row → Records
-next d r =
+-- the sent K1 stands in the table; with a usable pair received that pair is accepted, unless section 0 has failed; and with
+-- an alarm received section 0 has failed. Handed in are whether the commands allow each other, and whether the pair is sent
+-- where a K1 is accepted and the request is a local one
+abbrev pub nextWith : Bool → (ℕ → Bool → Bool) → Records → Row → Records
+nextWith command opened d r =
     let s = d .controller in
-    let seen = seenIn s (r .sentK1) (r .sentK2) in
-    let x = seen .request in
+    let last = asked (s .sent) in
+    let x = asked (r .sentK1) in
+    let now = waitOf s last 0 in
+    let local = arises (s .mask) command now last x in
+    let hidden = unseen command x && secondFits (r .sentK2) 0 in
     let carried = carries requests (s .n) (x .code) (x .channel) in
     let fits = usable (s .n) (r .k1) (r .k2) in
-    let unfailed = carried && not (alarmIn (r .k2)) in
+    let quiet = not (alarmIn (r .k2)) in
     let k1 = acceptedByte fits (r .k1) (s .k1) in
     record {
-      controller = recordAfter s (seen .now) k1 (acceptedByte fits (r .k2) (s .k2)) (r .sentK1);
-      heard = unfailed && opens k1 x (r .sentK2) (seen .local) && (fits || d .heard);
-      idle = unfailed && not fits && opens idleK1 x (r .sentK2) (seen .local) && d .idle || seen .hidden;
+      controller = recordAfter s now k1 (acceptedByte fits (r .k2) (s .k2)) (r .sentK1);
+      heard = carried && (quiet && opened k1 local && (fits || d .heard));
+      idle = carried && (quiet && not fits && opened idleK1 local && d .idle || hidden);
     }
+
+unfoldable pub next : Records → Row → Records
+next d r =
+    let x = asked (r .sentK1) in
+    nextWith (commandIn (d .controller) x) (λ k1 local. opens k1 x (r .sentK2) local) d r
+
+-- what the scan keeps of a record: the group has 1 to 14 sections, and neither the K1 last sent nor the accepted one has a
+-- channel that no group has
+pub record Fit (d : Records) : Type 0 where
+  pub sections : sectionsFit (d .controller .n) ≡ true
+  pub sent : channelOf (d .controller .sent) ≤ 14
+  pub accepted : channelOf (d .controller .k1) ≤ 14
 
 -- the verdict of the scan
 abbrev pub verdictOf : Scanned → Judging

@@ -6,25 +6,35 @@ use controller::codes::REVERSE;
 use controller::codes::WAIT_TO_RESTORE;
 use controller::command::held;
 use controller::section::condition;
-use pair::request::packed_rank;
 use request::Request;
 use request::better;
 use request::replaces;
-ghost use Rattle.controller.specs.Rules.{held};
-ghost use Rattle.explain.specs.Cause.{commanded, conditioned, waited, arises, unseen, answers};
+ghost use Rattle.controller.specs.Rules.{rankOfRequest, held};
+ghost use Rattle.explain.specs.Cause.{rankHeld, follows, commandedAt, conditioned, waited, arises, unseen, answersAt};
 ghost use mathlib.Core.Path.{_≡_};
 
-// One command a step: a clear that drops the held one leaves no room for a new one.
-pub(crate) fn commanded(hold: Request, x: Request) -> bool
-    ensures { λ r. ⌜ r ≡ commanded hold (held x) ⌝ }
+// The rank of the command that is held, if one is.
+fn rank_held(hold: Request, rank: u8) -> u8
+    ensures { λ r. ⌜ r ≡ rankHeld hold rank ⌝ }
 {
+    if hold.code == NOTHING { 0 } else { rank }
+}
+
+fn follows(goes: bool, prior: u8, rank: u8) -> bool
+    ensures { λ r. ⌜ r ≡ follows goes prior rank ⌝ }
+{
+    goes | replaces(prior, rank)
+}
+
+// One command a step: a clear that drops the held one leaves no room for a new one. A command that goes on was last sent.
+pub(crate) fn commanded(last: Request, prior: u8, x: Request, rank: u8) -> bool
+    requires { ⌜ prior ≡ rankOfRequest last ⌝ }
+    ensures { λ r. ⌜ r ≡ commandedAt rank (held last) (held x) ⌝ }
+{
+    let hold = held(last);
     let after = held(x);
-    let goes_on = (x.code == hold.code) & (x.channel == hold.channel);
-    let replaced = replaces(
-        packed_rank(hold.code, hold.channel),
-        packed_rank(x.code, x.channel),
-    );
-    (after.code != NOTHING) & (goes_on | replaced)
+    let goes_on = (x.code == last.code) & (x.channel == last.channel);
+    (after.code != NOTHING) & follows(goes_on, rank_held(hold, prior), rank)
 }
 
 fn conditioned(mask: u16, x: Request) -> bool
@@ -56,12 +66,11 @@ pub(crate) fn unseen(command: bool, x: Request) -> bool
     (x.channel == 0) & ((x.code == FAIL_HIGH) | ((x.code == LOCKOUT) & command))
 }
 
-pub(crate) fn answers(far: Request, x: Request, local: bool) -> bool
-    ensures { λ r. ⌜ r ≡ answers far x local ⌝ }
+pub(crate) fn answers(far: Request, theirs: u8, x: Request, rank: u8, local: bool) -> bool
+    requires { ⌜ theirs ≡ rankOfRequest far ⌝ }
+    ensures { λ r. ⌜ r ≡ answersAt rank far x local ⌝ }
 {
-    let rank_far = packed_rank(far.code, far.channel);
-    let rank_near = packed_rank(x.code, x.channel);
-    let beaten = better(rank_far, far.channel, rank_near, x.channel);
-    let reversed = (x.code == REVERSE) & (0 < rank_far) & (far.channel == x.channel);
+    let beaten = better(theirs, far.channel, rank, x.channel);
+    let reversed = (x.code == REVERSE) & (0 < theirs) & (far.channel == x.channel);
     reversed | (local & !beaten)
 }

@@ -7,7 +7,6 @@ use crate::capture::size_refusal;
 use crate::trace::scan;
 use controller::Controller;
 use controller::Made;
-use request::Request;
 ghost use Rattle.explain.specs.Verdict.{told, Right};
 
 // Explained, with the number of steps; unexplained, with the first step up to which there is no explanation; a refusal.
@@ -38,13 +37,4 @@ pub(crate) struct Records {
     pub controller: Controller,
     pub heard: bool,
     pub idle: bool,
-}
-
-// What a sent pair says, whatever was accepted: the request, the wait of the step, and whether the request can be a local
-// one while section 0 has not failed, or the pair be sent while it has.
-pub(crate) struct Seen {
-    pub request: Request,
-    pub now: u16,
-    pub local: bool,
-    pub hidden: bool,
 }

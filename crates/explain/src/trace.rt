@@ -1,6 +1,5 @@
 // The scan: what the bytes so far leave open of the controller's record (01, 'The judge').
 use crate::Records;
-use crate::Seen;
 use crate::Verdict;
 use crate::cause::answers;
 use crate::cause::arises;
@@ -10,18 +9,23 @@ use controller::Controller;
 use controller::asked::asked;
 use controller::codes::NOTHING;
 use controller::codes::WAIT_TO_RESTORE;
-use controller::command::held;
 use controller::wait::wait_of;
 use pair::mark::alarm;
-use pair::mark::usable;
-use pair::request::carries;
+use pair::mark::second_usable;
+use pair::table::numbers;
+use pair::table::rank_in;
+use pair::table::usable_in;
 use request::Request;
 use request::bridge;
 ghost use Prim.Native.Nat.{_≤_, _%_};
 ghost use Rattle.explain.specs.Capture.{row};
 ghost use Rattle.explain.specs.Scan.{first};
-ghost use Rattle.explain.specs.Trace.{live, secondFits, opens, recordAfter, seenIn, acceptedByte, next, verdictOf, scanned};
+ghost use Rattle.controller.specs.Rules.{rankOfRequest, asked};
+ghost use Rattle.explain.specs.Trace.{start, live, secondFits, opensAt, recordAfter, acceptedByte, next, Fit, verdictOf, scanned};
 ghost use Rattle.explain.specs.Verdict.{told, most};
+ghost use Rattle.pair.specs.Marks.{channelOf};
+ghost use Rattle.pair.specs.Request.{requests};
+ghost use Rattle.pair.specs.Table.{tableOf};
 ghost use lib.ListN.{length};
 ghost use mathlib.Core.Path.{_≡_};
 
@@ -32,12 +36,22 @@ fn second_fits(k2: u8, bridged: u8) -> bool
     k2 as u16 == (bridged as u16) * 16 + 0b1000
 }
 
-fn opens(k1: u8, x: Request, k2: u8, local: bool) -> bool
-    ensures { λ r. ⌜ r ≡ opens k1 x k2 local ⌝ }
+// The rank of a K1 whose channel some group has.
+fn rank_at(table: &[u16; 256], k1: u8) -> u8
+    requires { ⌜ (now table ≡ tableOf requests) × (channelOf k1 ≤ 14) ⌝ }
+    ensures { λ r. ⌜ r ≡ rankOfRequest (asked k1) ⌝ }
+{
+    rank_in(table[k1 as usize])
+}
+
+fn opens(table: &[u16; 256], k1: u8, x: Request, rank: u8, k2: u8, local: bool) -> bool
+    requires { ⌜ (now table ≡ tableOf requests) × (channelOf k1 ≤ 14) ⌝ }
+    ensures { λ r. ⌜ r ≡ opensAt rank k1 x k2 local ⌝ }
 {
     let far = asked(k1);
+    let theirs = rank_at(table, k1);
     let bridged = bridge(far.channel, x.channel, x.code == NOTHING);
-    answers(far, x, local) & second_fits(k2, bridged)
+    answers(far, theirs, x, rank, local) & second_fits(k2, bridged)
 }
 
 // The K1 last sent and the wait left follow from what was sent.
@@ -56,23 +70,6 @@ fn record_after(s: Controller, now: u16, k1: u8, k2: u8, sent: u8) -> Controller
     }
 }
 
-fn seen_in(s: Controller, sent1: u8, sent2: u8) -> Seen
-    ensures { λ r. ⌜ r ≡ seenIn s sent1 sent2 ⌝ }
-{
-    let last = asked(s.sent);
-    let x = asked(sent1);
-    let now = wait_of(s, last, 0);
-    let command = commanded(held(last), x);
-    let local = arises(s.mask, command, now, last, x);
-    let hidden = unseen(command, x) & second_fits(sent2, 0);
-    Seen {
-        request: x,
-        now,
-        local,
-        hidden,
-    }
-}
-
 fn accepted_byte(fits: bool, received: u8, before: u8) -> u8
     ensures { λ r. ⌜ r ≡ acceptedByte fits received before ⌝ }
 {
@@ -80,25 +77,33 @@ fn accepted_byte(fits: bool, received: u8, before: u8) -> u8
 }
 
 // The same few operations whatever the bytes are: a branch that is taken in one step and not in the next costs more than
-// what it would save. The flags of the step before come last, so that no step waits for another.
-pub(crate) fn next(d: Records, k1: u8, k2: u8, sent1: u8, sent2: u8) -> Records
+// what it would save. One look for each K1. The flags of the step before come last, so that no step waits for another.
+pub(crate) fn next(table: &[u16; 256], d: Records, k1: u8, k2: u8, sent1: u8, sent2: u8) -> Records
+    requires { ⌜ (now table ≡ tableOf requests) × Fit d ⌝ }
     ensures { λ r. ⌜ r ≡ next d (row k1 k2 sent1 sent2) ⌝ }
 {
     let s = d.controller;
-    let seen = seen_in(s, sent1, sent2);
-    let x = seen.request;
-    let carried = carries(s.n, x.code, x.channel);
-    let fits = usable(s.n, k1, k2);
-    // A row with an alarm is one with section 0 failed (02, c).
-    let unfailed = carried & !alarm(k2);
+    let last = asked(s.sent);
+    let x = asked(sent1);
+    let sent = table[sent1 as usize];
+    let carried = usable_in(sent, s.n);
+    let rank = rank_in(sent);
+    let now = wait_of(s, last, 0);
+    let command = commanded(last, rank_at(table, s.sent), x, rank);
+    let local = arises(s.mask, command, now, last, x);
+    let hidden = unseen(command, x) & second_fits(sent2, 0);
+    let fits = usable_in(table[k1 as usize], s.n) & second_usable(s.n, k2);
     let far = accepted_byte(fits, k1, s.k1);
-    let opened = unfailed & opens(far, x, sent2, seen.local);
-    let opened_idle = unfailed & !fits & opens(Controller::IDLE_K1, x, sent2, seen.local);
-    let controller = record_after(s, seen.now, far, accepted_byte(fits, k2, s.k2), sent1);
+    // A row with an alarm is one with section 0 failed (02, c).
+    let quiet = !alarm(k2);
+    let idle = Controller::IDLE_K1;
+    let opened = quiet & opens(table, far, x, rank, sent2, local);
+    let opened_idle = quiet & !fits & opens(table, idle, x, rank, sent2, local);
+    let controller = record_after(s, now, far, accepted_byte(fits, k2, s.k2), sent1);
     Records {
         controller,
-        heard: opened & (fits | d.heard),
-        idle: (opened_idle & d.idle) | seen.hidden,
+        heard: carried & (opened & (fits | d.heard)),
+        idle: carried & ((opened_idle & d.idle) | hidden),
     }
 }
 
@@ -116,9 +121,10 @@ fn unexplained_at(step: u16) -> Verdict
 }
 
 pub(crate) fn scan(s: Controller, capture: &[u8]) -> Verdict
-    requires { ⌜ (length (now capture) % 4 ≡ 0) × (length (now capture) ≤ most) ⌝ }
+    requires { ⌜ (length (now capture) % 4 ≡ 0) × (length (now capture) ≤ most) × Fit (start s) ⌝ }
     ensures { λ r. ⌜ told r ≡ scanned s (now (capture .entry)) ⌝ }
 {
+    let table = numbers();
     let mut possible = Records {
         controller: s,
         heard: true,
@@ -128,6 +134,7 @@ pub(crate) fn scan(s: Controller, capture: &[u8]) -> Verdict
     let mut at: usize = 0;
     while at < capture.len() {
         possible = next(
+            &table,
             possible,
             capture[at],
             capture[at + 1],

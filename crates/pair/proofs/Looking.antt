@@ -1,21 +1,18 @@
 -- Laws of the table of K1 values, over any list of rows: what is read off a number is what the rows say.
 use mathlib.Core.Path.{_≡_, refl, sym, ap, subst, _∙_}
 use mathlib.Core.Bool.{Bool, true, false, not, _&&_, and-eq-true-iff, false≢true}
-use mathlib.Core.List.{List, [], _∷_}
+use mathlib.Core.List.{List}
 use mathlib.Core.Logic.{_↔_, _⊎_, inl, inr, ⊎-elim}
 use Prim.Native.Nat.{ℕ, zero, suc, _+_, _*_, _/_, _%_, _≤_, _<_}
 use native.Mathlib.Omega.{arith}
-use lib.Dec.{leb, ltb, eqb}
+use lib.Dec.{leb, eqb}
 use lib.ListN.{getD}
-use borrow.Author.Tests.{leb-true, leb-false, le-leb, lt-leb, eqb-true, eqb-false, eq-eqb, ne-eqb}
-use Rattle.basics.specs.Choice.{if_then_else_}
-use Rattle.basics.specs.First.{_when_, firstOr}
-use Rattle.basics.specs.Table.{values}
+use borrow.Author.Tests.{leb-true, le-leb, lt-leb, eqb-true, eqb-false}
 use Rattle.basics.proofs.Table.{entry-is}
-use Rattle.pair.specs.Request.{Row, Class, channel-0, a-section, includes, classOf, listed, carries, rankIn}
+use Rattle.pair.specs.Request.{Row, channel-0, a-section, classOf, listed, carries, rankIn}
 use Rattle.pair.specs.Marks.{codeOf, channelOf}
 use Rattle.pair.specs.Table.{usableFor, rankFor, leastFrom, greatestTo, leastOf, greatestOf, markFor, valueOf}
-use Rattle.pair.specs.Table.{numberOf, valueIn, numberFor, tableOf, Reading, withRank, withMark, readBy}
+use Rattle.pair.specs.Table.{numberOf, valueIn, numberFor, tableOf, readBy}
 use Rattle.pair.specs.Table.{listedIn, usableIn, readIn}
 use Rattle.pair.specs.Coder.{sectionsFit}
 use Rattle.pair.specs.declared.Value.{Value}

@@ -2,7 +2,7 @@
 use mathlib.Core.Path.{sym, _∙_}
 use lib.ListN.{length}
 use Rattle.controller.proofs.Making.{fresh-facts, refused-facts}
-use Rattle.explain.proofs.Judged.{size-fits, settings-right, size-right, scanned-right}
+use Rattle.explain.proofs.Judged.{size-fits, fresh-fit, settings-right, size-right, scanned-right}
 use borrow.Author.Needs.{needs}
 use Rattle.explain.proofs.judge.Statement.{statement}
 use Rattle.explain.proofs.judge.Tie as tie
@@ -19,7 +19,11 @@ size-refusal-requires c κs = search needs
 scan-requires : tie.Need-scan-requires
 scan-requires c κs =
     let a = c .before .before .before .before .before .before .before .args in
-    size-fits (length (a .capture .now)) (sym (c .before .size-refusal .ensures) ∙ c .if1 .taken)
+    let size = size-fits (length (a .capture .now)) (sym (c .before .size-refusal .ensures) ∙ c .if1 .taken) in
+    let made = c .before .before .before .before .before .fresh .ensures .decided in
+    let s = c .before .before .before .s .given in
+    let facts = fresh-facts (a .n) (a .mask) (a .w) (s .0 .0) (sym made ∙ s .1) in
+    (size .0, size .1, rw (facts .0) (fresh-fit (a .n) (a .mask) (a .w) (facts .1)))
 
 enum-known-k : tie.Need-enum-known-k
 enum-known-k c = search needs

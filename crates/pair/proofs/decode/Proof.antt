@@ -1,8 +1,5 @@
 -- `decode` meets its contract: a pair decodes by the number of its K1 as it does by the rows.
-use mathlib.Core.Path.{subst}
 use borrow.Author.Needs.{needs}
-use Rattle.basics.specs.Answer.{Answers}
-use Rattle.pair.specs.Coder.{Decoding, decodingTold, decodingCase}
 use Rattle.pair.proofs.Coding.{decoding-looked}
 use Rattle.pair.proofs.decode.Statement.{statement}
 use Rattle.pair.proofs.decode.Tie as tie

@@ -1,10 +1,5 @@
 -- `acceptable` meets its contract: the numbers of the two K1 values say what the rows say of them.
-use mathlib.Core.Path.{_≡_, sym, ap, _∙_}
-use mathlib.Core.Bool.{Bool}
-use Prim.Native.Nat.{ℕ}
 use Rattle.pair.specs.Request.{requests}
-use Rattle.pair.specs.Table.{usableFor, numberFor, usableIn}
-use Rattle.pair.specs.Coder.{sectionsFit}
 use Rattle.pair.proofs.Looking.{usable-looked}
 use Rattle.pair.proofs.Coding.{usable-test}
 use Rattle.controller.specs.Refusals.{acceptable}

@@ -1,11 +1,16 @@
--- `commanded` meets its contract: a command that is sent is held afterwards.
-use mathlib.Core.Path.{_≡_, refl}
-use mathlib.Core.Bool.{Bool, true, false, not, _&&_}
+-- `commanded` meets its contract: a command that is sent is held afterwards, and one that goes on was last sent.
+use mathlib.Core.Path.{_≡_, refl, sym, ap, _∙_}
+use mathlib.Core.Bool.{Bool, true, false, not, _&&_, _||_, false≢true}
+use Prim.Native.Nat.{ℕ}
 use lib.Dec.{eqb}
+use borrow.Author.Tests.{eqb-true}
 use Rattle.pair.specs.Request.{nothingCode}
+use Rattle.request.specs.Order.{same}
+use Rattle.request.specs.Command.{replaces}
 use Rattle.request.specs.declared.Request.{Request}
-use Rattle.controller.specs.Rules.{isCommand, held}
-use Rattle.explain.specs.Cause.{follows, commanded}
+use Rattle.controller.specs.Rules.{isCommand, held, rankOfRequest}
+use Rattle.controller.proofs.Apart.{none-rank}
+use Rattle.explain.specs.Cause.{rankHeld, follows, commandedAt}
 use borrow.Author.Needs.{needs}
 use Rattle.explain.proofs.cause.commanded.Statement.{statement}
 use Rattle.explain.proofs.cause.commanded.Tie as tie
@@ -13,38 +18,67 @@ use Rattle.explain.proofs.cause.commanded.Tie as tie
 held-requires : tie.Need-held-requires
 held-requires c κs = search needs
 
-packed-rank-requires : tie.Need-packed-rank-requires
-packed-rank-requires c κs = search needs
+held-requires-2 : tie.Need-held-requires-2
+held-requires-2 c κs = search needs
 
-packed-rank-requires-2 : tie.Need-packed-rank-requires-2
-packed-rank-requires-2 c κs = search needs
+rank-held-requires : tie.Need-rank-held-requires
+rank-held-requires c κs = search needs
 
-replaces-requires : tie.Need-replaces-requires
-replaces-requires c κs = search needs
+follows-requires : tie.Need-follows-requires
+follows-requires c κs = search needs
+
+-- a command has another code than none, and than what is no command
+command-code : (code : ℕ) → isCommand code ≡ true → eqb code nothingCode ≡ false
+command-code code h = go (eqb code nothingCode) refl
+  where
+    go : (t : Bool) → eqb code nothingCode ≡ t → eqb code nothingCode ≡ false
+    go true e = absurd (false≢true (ap isCommand (sym (eqb-true code nothingCode e)) ∙ h))
+    go false e = e
+
+other-code : (code code2 : ℕ) → isCommand code ≡ true → isCommand code2 ≡ false → eqb code code2 ≡ false
+other-code code code2 h k = go (eqb code code2) refl
+  where
+    go : (t : Bool) → eqb code code2 ≡ t → eqb code code2 ≡ false
+    go true e = absurd (false≢true (sym k ∙ ap isCommand (sym (eqb-true code code2 e)) ∙ h))
+    go false e = e
+
+held-rank : (last : Request) → rankHeld (held last) (rankOfRequest last) ≡ rankOfRequest (held last)
+held-rank last = go (isCommand (last .code)) refl
+  where
+    go : (t : Bool) → isCommand (last .code) ≡ t
+        → rankHeld (held last) (rankOfRequest last) ≡ rankOfRequest (held last)
+    go true e = rw (e, command-code (last .code) e)
+    go false e = rw e (sym none-rank)
 
 -- a request that is no command is held as none, and then nothing else is looked at
-sent-held : (hold x : Request)
-    → not (eqb (held x .code) nothingCode) && follows hold x ≡ commanded hold (held x)
-sent-held hold x = go (isCommand (x .code)) refl
+sent-held : (last x : Request) (rank : ℕ)
+    → not (eqb (held x .code) nothingCode) && follows (same x last) (rankOfRequest (held last)) rank
+    ≡ commandedAt rank (held last) (held x)
+sent-held last x rank = go (isCommand (x .code)) (isCommand (last .code)) refl refl
   where
-    go : (t : Bool) → isCommand (x .code) ≡ t
-        → not (eqb (held x .code) nothingCode) && follows hold x ≡ commanded hold (held x)
-    go true e = rw e
-    go false e = rw e
+    go : (t u : Bool) → isCommand (x .code) ≡ t → isCommand (last .code) ≡ u
+        → not (eqb (held x .code) nothingCode) && follows (same x last) (rankOfRequest (held last)) rank
+        ≡ commandedAt rank (held last) (held x)
+    go true true e f = rw (e, f)
+    go true false e f = rw (e, f, other-code (x .code) (last .code) e f, command-code (x .code) e)
+    go false u e f = rw e
 
 returns : tie.Need-returns
 returns c =
-    let start = c .before .before .before .before .before .before .before .before in
-    let a = start .before .args in
+    let asked = c .before .before .before .before .before .before .before in
+    let start = asked .before .before in
+    let a = start .args in
     rw (
-      c .before .replaces .ensures,
-      c .before .before .packed-rank2 .ensures,
-      c .before .before .before .packed-rank .ensures,
-      start .held .ensures,
+      c .follows .ensures,
+      c .before .rank-held .ensures,
+      asked .held2 .ensures,
+      asked .before .held .ensures,
+      start .pre,
+      held-rank (a .last),
     )
-    (sent-held (a .hold) (a .x))
+    (sent-held (a .last) (a .x) (a .rank))
 
 pub commanded-spec : {M : Type 1} → statement M
 commanded-spec =
     tie.close
-    (tie.spec held-requires packed-rank-requires packed-rank-requires-2 replaces-requires returns)
+    (tie.spec held-requires held-requires-2 rank-held-requires follows-requires returns)

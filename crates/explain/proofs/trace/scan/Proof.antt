@@ -9,53 +9,57 @@ use Rattle.explain.proofs.trace.scan.Statement.{statement}
 use Rattle.explain.proofs.trace.scan.Tie as tie
 
 abbrev Inv-loop : tie.InvT-loop
-Inv-loop capture possible₀ step₀ at₀ possible step at = Walk capture possible₀ possible step at
+Inv-loop capture table possible₀ step₀ at₀ possible step at = Walk capture possible₀ possible step at
 
 abbrev μ-loop : tie.MeasureT-loop
-μ-loop capture possible₀ step₀ at₀ possible step at = length capture - at
+μ-loop capture table possible₀ step₀ at₀ possible step at = length capture - at
+
+numbers-requires : tie.Need-numbers-requires Inv-loop μ-loop
+numbers-requires c κs = search needs
 
 loop-holds : tie.Need-loop-holds Inv-loop μ-loop
 loop-holds c =
-    let a = c .before .args in
-    walk-start (a .capture .now) _ (c .before .pre .0) (c .before .pre .1)
+    let start = c .before .before in
+    walk-start (start .args .capture .now) _ (start .pre .0) (start .pre .1) (start .pre .2)
 
 shared-slice-read-next : tie.Need-shared-slice-read-next Inv-loop μ-loop
 shared-slice-read-next c =
-    let room = whole-step (c .before .before .loop .inv) (c .before .loop-test .taken) in
+    let room = whole-step (c .before .before .before .loop .inv) (c .before .before .loop-test .taken) in
     search needs
 
 add-next : tie.Need-add-next Inv-loop μ-loop
 add-next c =
-    let room = whole-step (c .before .before .loop .inv) (c .before .loop-test .taken) in
+    let room = whole-step (c .before .before .before .loop .inv) (c .before .before .loop-test .taken) in
     search needs
 
 shared-slice-read-next-2 : tie.Need-shared-slice-read-next-2 Inv-loop μ-loop
 shared-slice-read-next-2 c =
-    let room = whole-step (c .before .before .before .loop .inv) (c .before .before .loop-test .taken) in
+    let room = whole-step (c .before .before .before .before .loop .inv) (c .before .before .before .loop-test .taken) in
     search needs
 
 add-next-2 : tie.Need-add-next-2 Inv-loop μ-loop
 add-next-2 c =
-    let room = whole-step (c .before .before .before .loop .inv) (c .before .before .loop-test .taken) in
+    let room = whole-step (c .before .before .before .before .loop .inv) (c .before .before .before .loop-test .taken) in
     search needs
 
 shared-slice-read-next-3 : tie.Need-shared-slice-read-next-3 Inv-loop μ-loop
 shared-slice-read-next-3 c =
-    let room = whole-step (c .before .before .before .before .loop .inv) (c .before .before .before .loop-test .taken) in
+    let room = whole-step (c .before .before .before .before .before .loop .inv) (c .before .before .before .before .loop-test .taken) in
     search needs
 
 add-next-3 : tie.Need-add-next-3 Inv-loop μ-loop
 add-next-3 c =
-    let room = whole-step (c .before .before .before .before .loop .inv) (c .before .before .before .loop-test .taken) in
+    let room = whole-step (c .before .before .before .before .before .loop .inv) (c .before .before .before .before .loop-test .taken) in
     search needs
 
 shared-slice-read-next-4 : tie.Need-shared-slice-read-next-4 Inv-loop μ-loop
 shared-slice-read-next-4 c =
-    let room = whole-step (c .before .before .before .before .before .loop .inv) (c .before .before .before .before .loop-test .taken) in
+    let room = whole-step (c .before .before .before .before .before .before .loop .inv) (c .before .before .before .before .before .loop-test .taken) in
     search needs
 
 next-requires : tie.Need-next-requires Inv-loop μ-loop
-next-requires c κs = search needs
+next-requires c κs =
+    let row = c .before .before .before .before .before in (row .before .before .numbers .ensures, row .before .loop .inv .fit)
 
 live-requires : tie.Need-live-requires Inv-loop μ-loop
 live-requires c κs = search needs
@@ -66,30 +70,30 @@ unexplained-at-requires c κs = search needs
 returns : tie.Need-returns Inv-loop μ-loop
 returns c =
     let seen = c .before .before in
-    let row = seen .before .before .before .before .before .before in
+    let row = seen .before .before .before .before .before .before .before in
     c .unexplained-at .ensures
     ∙ walk-stop (row .before .loop .inv) (row .loop-test .taken) (seen .before .next .ensures)
     (sym (seen .live .ensures) ∙ not-true (seen .live .result) (c .before .if1 .taken))
 
 add-step : tie.Need-add-step Inv-loop μ-loop
 add-step c =
-    let few = few-steps (c .before .before .before .before .before .before .before .before .loop .inv) (c .before .before .before .before .before .before .before .loop-test .taken) in
+    let few = few-steps (c .before .before .before .before .before .before .before .before .before .loop .inv) (c .before .before .before .before .before .before .before .before .loop-test .taken) in
     search needs
 
 add-at : tie.Need-add-at Inv-loop μ-loop
 add-at c =
-    let room = whole-step (c .before .before .before .before .before .before .before .before .loop .inv) (c .before .before .before .before .before .before .before .loop-test .taken) in
+    let room = whole-step (c .before .before .before .before .before .before .before .before .before .loop .inv) (c .before .before .before .before .before .before .before .before .loop-test .taken) in
     search needs
 
 loop-less : tie.Need-loop-less Inv-loop μ-loop
 loop-less c =
-    let room = whole-step (c .before .before .before .before .before .before .before .before .loop .inv) (c .before .before .before .before .before .before .before .loop-test .taken) in
+    let room = whole-step (c .before .before .before .before .before .before .before .before .before .loop .inv) (c .before .before .before .before .before .before .before .before .loop-test .taken) in
     search needs
 
 loop-again : tie.Need-loop-again Inv-loop μ-loop
 loop-again c =
     let seen = c .before in
-    let row = seen .before .before .before .before .before .before in
+    let row = seen .before .before .before .before .before .before .before in
     walk-next (row .before .loop .inv) (row .loop-test .taken) (seen .before .next .ensures)
     (sym (seen .live .ensures) ∙ not-false (seen .live .result) (c .if1 .left))
 
@@ -102,6 +106,7 @@ scan-spec =
     (tie.spec
     Inv-loop
     μ-loop
+    numbers-requires
     loop-holds
     shared-slice-read-next
     add-next

@@ -1,5 +1,4 @@
 -- `value_of` meets its contract: what was put together is taken apart.
-use mathlib.Core.Path.{_∙_}
 use borrow.Author.Needs.{needs}
 use Rattle.pair.specs.Request.{requests}
 use Rattle.pair.proofs.Looking.{value-back}
