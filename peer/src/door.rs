@@ -6,6 +6,7 @@ mod peer;
 pub use peer::{record_bytes, record_of, verdict_bytes, Peer};
 
 pub const RECORD: usize = 10;
+pub const K1: usize = 4;
 pub const DECODED: usize = 6;
 pub const ENCODED: usize = 2;
 pub const STEP: usize = 17;
@@ -13,10 +14,13 @@ pub const VERDICT: usize = 3;
 pub const CONTENTS: usize = 769;
 pub const SIZE: usize = 4;
 
-/// All of them answer the refusal, or 0, and fill what they are lent as the
-/// header says. Where it has K1 and K2 of a received pair, here is the pair.
+/// All of them fill what they are lent as the header says, and all but `k1`, which has
+/// nothing to refuse, answer the refusal, or 0. Where the header has K1 and K2 of a
+/// received pair, here is the pair.
 pub trait Door: Sync {
     fn fresh(&self, n: u8, mask: u16, wait: u16, record: &mut [u8; RECORD]) -> u8;
+
+    fn k1(&self, k1: u8, out: &mut [u8; K1]);
 
     fn decode(&self, n: u8, k1: u8, k2: u8, out: &mut [u8; DECODED]) -> u8;
 

@@ -9,12 +9,14 @@
 
 #![allow(unsafe_code)]
 
-use crate::door::{Door, CONTENTS, DECODED, ENCODED, RECORD, SIZE, STEP, VERDICT};
+use crate::door::{Door, CONTENTS, DECODED, ENCODED, K1, RECORD, SIZE, STEP, VERDICT};
 
 /// As in the header, with its `size_t` as `usize`.
 mod declared {
     unsafe extern "C" {
         pub fn chainplater_fresh(n: u8, mask: u16, wait: u16, record: *mut u8) -> u8;
+
+        pub fn chainplater_k1(k1: u8, out: *mut u8);
 
         pub fn chainplater_decode(n: u8, k1: u8, k2: u8, out: *mut u8) -> u8;
 
@@ -72,6 +74,12 @@ impl Door for Library {
     fn fresh(&self, n: u8, mask: u16, wait: u16, record: &mut [u8; RECORD]) -> u8 {
         // SAFETY: `record` has the 10 bytes that are written.
         unsafe { declared::chainplater_fresh(n, mask, wait, record.as_mut_ptr()) }
+    }
+
+    #[inline]
+    fn k1(&self, k1: u8, out: &mut [u8; K1]) {
+        // SAFETY: `out` has the 4 bytes that are written.
+        unsafe { declared::chainplater_k1(k1, out.as_mut_ptr()) }
     }
 
     #[inline]

@@ -1,5 +1,5 @@
 //! A second reading of the scope paper (01), with what is in force of the change
-//! requests (02): c, d, and b, which changes nothing that is answered.
+//! requests (02): c, d, j, and b, which changes nothing that is answered.
 //!
 //! Everything here was written from the papers alone, and `door` and `library` from
 //! `include/chainplater.h` besides. None of it comes from the Rattle source, by
@@ -7,23 +7,24 @@
 //! with each other and prove nothing. Every landing that changes this package
 //! keeps it that way.
 //!
-//! Six points were not reached so: what `pair::rank` answers for a channel that
+//! Seven points were not reached so: what `pair::rank` answers for a channel that
 //! no group has, and `book::body` for an entry whose body is not all in the
 //! book; that the line of a refused capture keeps its number, sections and steps;
 //! that a request was last sent, in 02 d, if the step before sent it, and no
 //! earlier one; that conditions are refused, in 02, c, as they are handed in, with
-//! an alarm as without; and the byte that tells of an alarm. The fourth takes 02 at
-//! its word, and on the others the papers are silent. What is answered was settled
-//! for both programs, and their agreement on it is no evidence.
+//! an alarm as without; the byte that tells of an alarm; and that, in 02, j, a 0
+//! stands for what a K1 value does not have. The fourth takes 02 at its word, and on
+//! the others the papers are silent. What is answered was settled for both programs,
+//! and their agreement on it is no evidence.
 //!
 //! Nor was the closed form of `judge::scan`, which requests can be sent in a step,
 //! with an alarm or without: it was handed over. What speaks for it is that it
 //! agrees with the judge by brute force, which was written from the papers alone.
 //!
 //! The programs are compared by what they print: `sequences` for the byte pair and
-//! the controller, `trials` for the capture book. For the judge there is a program
-//! of its own on the other side, so `books` runs it on many books and compares what
-//! it prints with what `judge` prints here.
+//! the controller, `trials` for the capture book, `k1` for what is said of each K1
+//! value. For the judge there is a program of its own on the other side, so `books`
+//! runs it on many books and compares what it prints with what `judge` prints here.
 //!
 //! The proved library is linked, and called with the same arguments as this
 //! reading: `compare` looks for differences in what they answer and in all they
@@ -61,7 +62,8 @@ use std::io::{self, BufWriter, StdoutLock, Write};
 use std::path::Path;
 use std::process::ExitCode;
 
-const USAGE: &str = "usage: peer sequences | trials | judge | books [PROGRAM] | compare | bench";
+const USAGE: &str =
+    "usage: peer sequences | trials | k1 | judge | books [PROGRAM] | compare | bench";
 
 const MISSING: &str = "\
 peer: built without target/staticlib/libchainplater.a, which is for x86-64 alone
@@ -75,6 +77,7 @@ fn main() -> ExitCode {
     match words.as_slice() {
         [word] if word == "sequences" => finish(print(sequences::write)),
         [word] if word == "trials" => finish(print(trials::write)),
+        [word] if word == "k1" => finish(print(pair::values::write)),
         [word] if word == "judge" => finish(print(|out| judge::table::write(io::stdin(), out))),
         [word] if word == "books" => compare_books(Path::new(books::USUAL_PROGRAM)),
         [word, program] if word == "books" => compare_books(Path::new(program)),

@@ -1,6 +1,8 @@
 //! The coder of the K1/K2 byte pair (paper: "The byte pair"), with the two
 //! refusals that concern it (paper: "Numbered refusals").
 
+pub mod values;
+
 use std::ops::RangeInclusive;
 
 /// The most working sections a group can have (paper: "Settings and what the

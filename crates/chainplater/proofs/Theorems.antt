@@ -7,6 +7,7 @@ use lib.ListN.{length, getD, replicate}
 use denote.Ref.{now}
 use Rattle.basics.specs.Bytes.{fourBytes}
 use Rattle.basics.proofs.One.{OneAnswer, OneContent, one-value}
+use Rattle.pair.specs.declared.Value.{Value}
 use Rattle.pair.specs.Coder.{Decoding, Encoding, sectionsFit, encoding}
 use Rattle.controller.specs.Step.{step}
 use Rattle.controller.specs.declared.Controller.{Controller}
@@ -17,7 +18,7 @@ use Rattle.book.specs.Reader.{reading}
 use Rattle.book.specs.Writer.{writing, output}
 use Rattle.book.proofs.Lists.{length-listed}
 use Rattle.book.proofs.Trips.{contents-back, read-places}
-use Rattle.chainplater.specs.Coder.{flag, decodedBytes, encodedBytes, encodingBytes}
+use Rattle.chainplater.specs.Coder.{valueBytes, flag, decodedBytes, encodedBytes, encodingBytes}
 use Rattle.chainplater.specs.Record.{recordIn, recordBytes, outcomeBytes}
 use Rattle.chainplater.specs.Verdict.{judgingBytes}
 use Rattle.chainplater.proofs.Bytes.{record-size, outcome-size, record-back, record-again, refused-bytes}
@@ -26,6 +27,10 @@ use Rattle.chainplater.proofs.chainplater_fresh.Kinds as fresh-kinds
 use Rattle.chainplater.proofs.chainplater_fresh.Reads as fresh-fn
 use Rattle.chainplater.proofs.chainplater_fresh.Statement as fresh-statement
 use Rattle.chainplater.proofs.chainplater_fresh.Met as fresh-met
+use Rattle.chainplater.proofs.chainplater_k1.Kinds as k1-kinds
+use Rattle.chainplater.proofs.chainplater_k1.Reads as k1-fn
+use Rattle.chainplater.proofs.chainplater_k1.Statement as k1-statement
+use Rattle.chainplater.proofs.chainplater_k1.Met as k1-met
 use Rattle.chainplater.proofs.chainplater_decode.Kinds as decode-kinds
 use Rattle.chainplater.proofs.chainplater_decode.Reads as decode-fn
 use Rattle.chainplater.proofs.chainplater_decode.Statement as decode-statement
@@ -56,6 +61,9 @@ use Rattle.chainplater.proofs.chainplater_write.Met as write-met
 fresh-right : {M : Type 1} → fresh-statement.statement M
 fresh-right = fresh-met.met
 
+k1-right : {M : Type 1} → k1-statement.statement M
+k1-right = k1-met.met
+
 decode-right : {M : Type 1} → decode-statement.statement M
 decode-right = decode-met.met
 
@@ -81,6 +89,9 @@ fresh-unique κs args x y s t p q = one-value (p .0) (q .0)
 
 record-unique : OneContent 1 fresh-kinds.ps fresh-kinds.r fresh-fn.Post (λ κs exit. now (exit .1 .1 .1 .0))
 record-unique κs args x y s t p q = one-value (p .1) (q .1)
+
+value-unique : OneContent 1 k1-kinds.ps k1-kinds.r k1-fn.Post (λ κs exit. now (exit .1 .0))
+value-unique κs args x y s t p q = one-value p q
 
 decode-unique : OneAnswer 1 decode-kinds.ps decode-kinds.r decode-fn.Post
 decode-unique κs args x y s t p q = one-value (p .0) (q .0)
@@ -124,6 +135,9 @@ size-unique κs args x y s t p q = one-value (p .1 .1) (q .1 .1)
 -- The outputs have as many bytes as the functions are lent.
 record-long : (s : Controller) → length (recordBytes s) ≡ 10
 record-long = record-size
+
+value-long : (v : Value) → length (valueBytes v) ≡ 4
+value-long v = refl
 
 decoded-long : (d : Decoding) → length (decodedBytes d) ≡ 6
 decoded-long d = refl

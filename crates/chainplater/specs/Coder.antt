@@ -1,10 +1,15 @@
--- The coder: what is answered of a pair, and what is taken to be encoded, in bytes.
+-- The coder: what is answered of a K1 and of a pair, and what is taken to be encoded, in bytes.
 use mathlib.Core.Bool.{Bool, _&&_}
 use mathlib.Core.List.{List, [], _∷_}
 use Prim.Native.Nat.{ℕ}
 use lib.Dec.{ltb, eqb}
 use Rattle.basics.specs.Choice.{if_then_else_}
+use Rattle.pair.specs.declared.Value.{Value}
 use Rattle.pair.specs.Coder.{Decoding, Encoding, sectionsFit, encoding}
+
+-- rank, least n, greatest n, mark
+abbrev pub valueBytes : Value → List ℕ
+valueBytes v = v .rank ∷ v .least ∷ v .greatest ∷ v .mark ∷ []
 
 abbrev pub flag : Bool → ℕ
 flag t = if t then 1 else 0

@@ -11,16 +11,19 @@ use explain::Verdict;
 use pair::Decoded;
 use pair::Encoded;
 use pair::Pair;
+use pair::table::value_of;
 ghost use Rattle.basics.specs.Bytes.{fourBytes};
 ghost use Rattle.book.specs.Format.{contentsIn, bytesOf};
 ghost use Rattle.book.specs.Reader.{reading};
 ghost use Rattle.book.specs.Writer.{writing, output};
-ghost use Rattle.chainplater.specs.Coder.{flag, decodedBytes, encodedBytes, encodingBytes};
+ghost use Rattle.chainplater.specs.Coder.{valueBytes, flag, decodedBytes, encodedBytes, encodingBytes};
 ghost use Rattle.chainplater.specs.Record.{recordIn, recordBytes, outcomeBytes};
 ghost use Rattle.chainplater.specs.Verdict.{Judged};
 ghost use Rattle.controller.specs.Settings.{making};
 ghost use Rattle.controller.specs.Step.{step};
 ghost use Rattle.pair.specs.Coder.{decoding};
+ghost use Rattle.pair.specs.Request.{requests};
+ghost use Rattle.pair.specs.Table.{valueOf};
 ghost use lib.ListN.{length};
 ghost use mathlib.Core.Path.{_≡_};
 
@@ -39,6 +42,14 @@ pub extern "C" fn chainplater_fresh(n: u8, mask: u16, wait: u16, out: &mut [u8; 
             k
         }
     }
+}
+
+#[no_mangle]
+pub extern "C" fn chainplater_k1(k1: u8, out: &mut [u8; 4])
+    ensures { λ _. ⌜ now (out .exit) ≡ valueBytes (valueOf requests k1) ⌝ }
+{
+    let v = value_of(k1);
+    *out = [v.rank, v.least, v.greatest, v.mark];
 }
 
 fn flag(remote: bool) -> u8

@@ -13,6 +13,7 @@ mod report;
 mod spoilt;
 mod steps;
 mod tally;
+mod values;
 
 use crate::door::Door;
 use crew::Manner;
@@ -33,7 +34,7 @@ struct Subject {
     compare: fn(&dyn Door, usize) -> Tally,
 }
 
-const SUBJECTS: [Subject; 9] = [
+const SUBJECTS: [Subject; 10] = [
     Subject {
         name: "fresh",
         least: 1 << 24,
@@ -41,6 +42,14 @@ const SUBJECTS: [Subject; 9] = [
         kinds: &[],
         parts: coder::PARTS_BY_SIZE,
         compare: coder::fresh,
+    },
+    Subject {
+        name: "k1, and decoded for every n",
+        least: 14 * 256 * 2,
+        refusals: &[0],
+        kinds: &values::KINDS,
+        parts: values::PARTS,
+        compare: values::compare,
     },
     Subject {
         name: "decode",

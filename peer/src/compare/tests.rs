@@ -1,7 +1,7 @@
 use super::*;
 use crate::book::STEP_BYTES;
 use crate::books::pairs::unheard;
-use crate::door::{Peer, CONTENTS, DECODED, ENCODED, RECORD, SIZE, STEP, VERDICT};
+use crate::door::{Peer, CONTENTS, DECODED, ENCODED, K1, RECORD, SIZE, STEP, VERDICT};
 use std::io::Write;
 
 /// This reading in the place of the library, with one function that is wrong, or with
@@ -44,6 +44,11 @@ impl Door for Fake {
         let refusal = Peer.fresh(n, mask, wait, record);
         self.spoil("fresh", record);
         refusal
+    }
+
+    fn k1(&self, k1: u8, out: &mut [u8; K1]) {
+        Peer.k1(k1, out);
+        self.spoil("k1", out);
     }
 
     fn decode(&self, n: u8, k1: u8, k2: u8, out: &mut [u8; DECODED]) -> u8 {
@@ -123,7 +128,7 @@ fn part_of(name: &str, library: &dyn Door) -> Tally {
 
 #[test]
 fn a_wrong_byte_of_each_function_is_noticed() {
-    for name in ["fresh", "decode", "encode", "judge", "read", "write"] {
+    for name in ["fresh", "k1", "decode", "encode", "judge", "read", "write"] {
         let tally = part_of(name, &Fake { wrong: name });
         assert!(tally.differences > 0 && !tally.told.is_empty(), "{name}");
     }
@@ -140,6 +145,34 @@ fn what_is_not_wrong_has_no_differences() {
         assert!(tally.calls >= 1_000, "{name}: {}", tally.calls);
         assert_eq!(tally.differences, 0, "{name}");
     }
+}
+
+/// All of its parts. By hand: a group of n sections can use 8 n + 5 values, 96 have no
+/// code, and 117 are usable in some group.
+#[test]
+fn every_k1_is_looked_at_for_every_n() {
+    let subject = subject("k1");
+    let mut tally = Tally::default();
+    for part in 0..subject.parts {
+        tally.join((subject.compare)(&Peer, part));
+    }
+    assert_eq!((tally.calls, tally.differences), (subject.least, 0));
+    assert_eq!(tally.refusals[0], tally.calls);
+    let usable: u64 = (1..=14).map(|n| 8 * n + 5).sum();
+    let of_code = 14 * 96;
+    let of_channel = 14 * 256 - usable - of_code;
+    let counts = [usable, 0, 0, of_code, of_channel, 14 * 117 - usable];
+    assert_eq!(tally.kinds[..6], counts);
+}
+
+/// The values of a library are held against its decoder, whichever is the wrong one: of
+/// all 256 the bytes differ, and then what is made of those that are no longer right.
+#[test]
+fn values_and_decoder_are_held_against_each_other() {
+    let differences = |wrong| part_of("k1", &Fake { wrong }).differences;
+    assert_eq!(differences("decode"), 256 + 256);
+    // In a group of three the mark of a value that is usable is not looked at.
+    assert_eq!(differences("k1"), 256 + (256 - (8 * 3 + 5)));
 }
 
 /// The subjects in which pairs are received.
@@ -250,6 +283,7 @@ fn as_many_calls_are_due_as_the_order_asks_for() {
         named.map(|subject| subject.least).sum()
     };
     assert!(due("step") >= 10_000_000);
+    assert_eq!(due("k1"), 14 * 256 * 2);
     assert_eq!(due("decode"), 256 * 256 * 256);
     assert!(due("encode") >= 6 * 256 * 256 * 256 * 2);
     assert!(due("judge") >= 200_000);

@@ -1,11 +1,11 @@
 //! This reading behind the door. None of its functions is inlined, so that to
 //! call it costs a call, as it does to call the library.
 
-use super::{Door, CONTENTS, DECODED, ENCODED, RECORD, SIZE, STEP, VERDICT};
+use super::{Door, CONTENTS, DECODED, ENCODED, K1, RECORD, SIZE, STEP, VERDICT};
 use crate::book::{self, Contents, Entry, ENTRY_BYTES};
 use crate::controller::{self, Answer, Record};
 use crate::judge::{scan, Verdict};
-use crate::pair::{self, Received};
+use crate::pair::{self, values, Received};
 
 pub struct Peer;
 
@@ -18,6 +18,11 @@ impl Door for Peer {
         };
         *record = made;
         refusal
+    }
+
+    #[inline(never)]
+    fn k1(&self, k1: u8, out: &mut [u8; K1]) {
+        *out = values::numbers(k1);
     }
 
     #[inline(never)]

@@ -76,6 +76,24 @@ fn a_refused_fresh_record_is_zeros() {
 }
 
 #[test]
+fn a_k1_is_its_rank_its_sizes_and_its_mark() {
+    for (k1, expected) in [
+        (0x00, [0, 1, 14, 0]),
+        (0x11, [0, 0, 0, 3]),
+        (0x23, [0, 3, 14, 0]),
+        (0xA2, [4, 2, 14, 0]),
+        (0xAF, [0, 0, 0, 4]),
+        (0xD0, [9, 1, 14, 0]),
+        (0xDE, [7, 14, 14, 0]),
+        (0xF1, [0, 0, 0, 4]),
+    ] {
+        let mut out = [FILL; K1];
+        Peer.k1(k1, &mut out);
+        assert_eq!(out, expected, "{k1:02X}");
+    }
+}
+
+#[test]
 fn decoded_bytes_are_the_mark_the_record_or_the_alarm() {
     for (n, pair, refusal, expected) in [
         (2, [0xA2, 0x1E], 0, [0, 0b1010, 2, 1, 1, 0]),

@@ -1,7 +1,7 @@
 //! In place of the library, where this package was built without it. There is no
 //! value of this type, so nothing here is ever called.
 
-use crate::door::{Door, CONTENTS, DECODED, ENCODED, RECORD, SIZE, STEP, VERDICT};
+use crate::door::{Door, CONTENTS, DECODED, ENCODED, K1, RECORD, SIZE, STEP, VERDICT};
 
 pub enum Library {}
 
@@ -11,6 +11,10 @@ pub fn linked() -> Option<Library> {
 
 impl Door for Library {
     fn fresh(&self, _: u8, _: u16, _: u16, _: &mut [u8; RECORD]) -> u8 {
+        match *self {}
+    }
+
+    fn k1(&self, _: u8, _: &mut [u8; K1]) {
         match *self {}
     }
 
