@@ -3,6 +3,7 @@ use crate::asked::rank_of;
 use crate::codes::NO_REQUEST;
 use crate::codes::REVERSE;
 use crate::section::condition;
+use pair::request::rank;
 use request::Request;
 use request::better;
 use request::turn;
@@ -129,7 +130,9 @@ pub(crate) fn local_request(
 fn beats(a: Request, b: Request) -> bool
     ensures { λ r. ⌜ r ≡ byRank rankOf a b ⌝ }
 {
-    better(rank_of(a), a.channel, rank_of(b), b.channel)
+    // Of what has no rank the other's need not be known.
+    let first = rank(a.code, a.channel);
+    (0 < first) && better(first, a.channel, rank_of(b), b.channel)
 }
 
 // RR answers a better request of the far end.
