@@ -1,12 +1,11 @@
 -- `commanded` meets its contract: a command that is sent is held afterwards, and one that goes on was last sent.
 use mathlib.Core.Path.{_≡_, refl, sym, ap, _∙_}
-use mathlib.Core.Bool.{Bool, true, false, not, _&&_, _||_, false≢true}
+use mathlib.Core.Bool.{Bool, true, false, not, _&&_, false≢true}
 use Prim.Native.Nat.{ℕ}
 use lib.Dec.{eqb}
 use borrow.Author.Tests.{eqb-true}
 use Rattle.pair.specs.Request.{nothingCode}
 use Rattle.request.specs.Order.{same}
-use Rattle.request.specs.Command.{replaces}
 use Rattle.request.specs.declared.Request.{Request}
 use Rattle.controller.specs.Rules.{isCommand, held, rankOfRequest}
 use Rattle.controller.proofs.Apart.{none-rank}
