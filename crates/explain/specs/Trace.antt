@@ -78,9 +78,18 @@ recordAfter s now k1 k2 sentK1 =
 abbrev pub acceptedByte : Bool → ℕ → ℕ → ℕ
 acceptedByte fits received before = if fits then received else before
 
--- the sent K1 stands in the table; with a usable pair received that pair is accepted, unless section 0 has failed; and with
--- an alarm received section 0 has failed. Handed in are whether the commands allow each other, and whether the pair is sent
--- where a K1 is accepted and the request is a local one
+-- what is left open behind a row: the sent K1 stands in the table; with a usable pair received that pair is accepted, unless
+-- section 0 has failed; and with an alarm received section 0 has failed
+abbrev pub leftOpen : Records → Controller → Bool → Bool → Bool → Bool → Bool → Bool → Records
+leftOpen d s carried quiet fits opened openedIdle hidden =
+    record {
+      controller = s;
+      heard = carried && (quiet && opened && (fits || d .heard));
+      idle = carried && (quiet && not fits && openedIdle && d .idle || hidden);
+    }
+
+-- handed in are whether the commands allow each other, and whether the pair is sent where a K1 is accepted and the request
+-- is a local one
 abbrev pub nextWith : Bool → (ℕ → Bool → Bool) → Records → Row → Records
 nextWith command opened d r =
     let s = d .controller in
@@ -88,16 +97,12 @@ nextWith command opened d r =
     let x = asked (r .sentK1) in
     let now = waitOf s last 0 in
     let local = arises (s .mask) command now last x in
-    let hidden = unseen command x && secondFits (r .sentK2) 0 in
     let carried = carries requests (s .n) (x .code) (x .channel) in
     let fits = usable (s .n) (r .k1) (r .k2) in
-    let quiet = not (alarmIn (r .k2)) in
     let k1 = acceptedByte fits (r .k1) (s .k1) in
-    record {
-      controller = recordAfter s now k1 (acceptedByte fits (r .k2) (s .k2)) (r .sentK1);
-      heard = carried && (quiet && opened k1 local && (fits || d .heard));
-      idle = carried && (quiet && not fits && opened idleK1 local && d .idle || hidden);
-    }
+    let after = recordAfter s now k1 (acceptedByte fits (r .k2) (s .k2)) (r .sentK1) in
+    leftOpen d after carried (not (alarmIn (r .k2))) fits (opened k1 local) (opened idleK1 local)
+    (unseen command x && secondFits (r .sentK2) 0)
 
 unfoldable pub next : Records → Row → Records
 next d r =

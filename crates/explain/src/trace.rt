@@ -21,7 +21,7 @@ ghost use Prim.Native.Nat.{_≤_, _%_};
 ghost use Rattle.explain.specs.Capture.{row};
 ghost use Rattle.explain.specs.Scan.{first};
 ghost use Rattle.controller.specs.Rules.{rankOfRequest, asked};
-ghost use Rattle.explain.specs.Trace.{start, live, secondFits, opensAt, recordAfter, acceptedByte, next, Fit, verdictOf, scanned};
+ghost use Rattle.explain.specs.Trace.{start, live, secondFits, opensAt, recordAfter, acceptedByte, leftOpen, next, Fit, verdictOf, scanned};
 ghost use Rattle.explain.specs.Verdict.{told, most};
 ghost use Rattle.pair.specs.Marks.{channelOf};
 ghost use Rattle.pair.specs.Request.{requests};
@@ -76,8 +76,28 @@ fn accepted_byte(fits: bool, received: u8, before: u8) -> u8
     if fits { received } else { before }
 }
 
+// The flags of the step before come last, so that no step waits for another.
+fn left_open(
+    d: Records,
+    s: Controller,
+    carried: bool,
+    quiet: bool,
+    fits: bool,
+    opened: bool,
+    idle: bool,
+    hidden: bool,
+) -> Records
+    ensures { λ r. ⌜ r ≡ leftOpen d s carried quiet fits opened idle hidden ⌝ }
+{
+    Records {
+        controller: s,
+        heard: carried & (quiet & opened & (fits | d.heard)),
+        idle: carried & ((quiet & !fits & idle & d.idle) | hidden),
+    }
+}
+
 // The same few operations whatever the bytes are: a branch that is taken in one step and not in the next costs more than
-// what it would save. One look for each K1. The flags of the step before come last, so that no step waits for another.
+// what it would save. One look for each K1.
 pub(crate) fn next(table: &[u16; 256], d: Records, k1: u8, k2: u8, sent1: u8, sent2: u8) -> Records
     requires { ⌜ (now table ≡ tableOf requests) × Fit d ⌝ }
     ensures { λ r. ⌜ r ≡ next d (row k1 k2 sent1 sent2) ⌝ }
@@ -94,17 +114,12 @@ pub(crate) fn next(table: &[u16; 256], d: Records, k1: u8, k2: u8, sent1: u8, se
     let hidden = unseen(command, x) & second_fits(sent2, 0);
     let fits = usable_in(table[k1 as usize], s.n) & second_usable(s.n, k2);
     let far = accepted_byte(fits, k1, s.k1);
+    let opened = opens(table, far, x, rank, sent2, local);
+    let opened_idle = opens(table, Controller::IDLE_K1, x, rank, sent2, local);
+    let after = record_after(s, now, far, accepted_byte(fits, k2, s.k2), sent1);
     // A row with an alarm is one with section 0 failed (02, c).
     let quiet = !alarm(k2);
-    let idle = Controller::IDLE_K1;
-    let opened = quiet & opens(table, far, x, rank, sent2, local);
-    let opened_idle = quiet & !fits & opens(table, idle, x, rank, sent2, local);
-    let controller = record_after(s, now, far, accepted_byte(fits, k2, s.k2), sent1);
-    Records {
-        controller,
-        heard: carried & (opened & (fits | d.heard)),
-        idle: carried & ((opened_idle & d.idle) | hidden),
-    }
+    left_open(d, after, carried, quiet, fits, opened, opened_idle, hidden)
 }
 
 fn live(d: Records) -> bool

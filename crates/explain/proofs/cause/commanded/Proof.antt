@@ -64,18 +64,15 @@ sent-held last x rank = go (isCommand (x .code)) (isCommand (last .code)) refl r
 
 returns : tie.Need-returns
 returns c =
-    let asked = c .before .before .before .before .before .before .before in
-    let start = asked .before .before in
+    let sent = c .before .before .before .before .before .before .before in
+    let start = sent .before .before in
     let a = start .args in
-    rw (
-      c .follows .ensures,
-      c .before .rank-held .ensures,
-      asked .held2 .ensures,
-      asked .before .held .ensures,
-      start .pre,
-      held-rank (a .last),
-    )
-    (sent-held (a .last) (a .x) (a .rank))
+    let hold = sent .before .held .ensures in
+    let after = sent .held2 .ensures in
+    let prior =
+    c .before .rank-held .ensures ∙ (λ i. rankHeld (hold i) (start .pre i)) ∙ held-rank (a .last) in
+    let followed = c .follows .ensures ∙ (λ i. follows (same (a .x) (a .last)) (prior i) (a .rank)) in
+    (λ i. not (eqb (after i .code) nothingCode) && followed i) ∙ sent-held (a .last) (a .x) (a .rank)
 
 pub commanded-spec : {M : Type 1} → statement M
 commanded-spec =

@@ -1,6 +1,6 @@
 -- `next` meets its contract: a look at the table gives what the rows say of each K1.
 use mathlib.Core.Path.{_≡_, ap, _∙_}
-use mathlib.Core.Bool.{not, _&&_, _||_}
+use mathlib.Core.Bool.{not, _&&_}
 use Prim.Native.Nat.{ℕ, _<_}
 use lib.ListN.{getD}
 use Rattle.pair.specs.Request.{requests}
@@ -13,7 +13,7 @@ use Rattle.controller.specs.Rules.{held}
 use Rattle.controller.specs.Step.{waitOf}
 use Rattle.explain.specs.Capture.{row}
 use Rattle.explain.specs.Cause.{commandedAt, arises, unseen}
-use Rattle.explain.specs.Trace.{opensAt, recordAfter, acceptedByte}
+use Rattle.explain.specs.Trace.{opensAt, recordAfter, acceptedByte, leftOpen}
 use Rattle.explain.proofs.Ranked.{next-ranked, accepted-channel}
 use borrow.Author.Needs.{needs}
 use Rattle.explain.proofs.trace.next.Statement.{statement}
@@ -93,13 +93,12 @@ alarm-requires c κs = search needs
 
 opens-requires : tie.Need-opens-requires
 opens-requires c κs =
-    let seen = c .before .before in
+    let seen = c .before in
     let start = rowStart seen in
-    let a = start .args in
-    let fit = start .pre .1 in (
+    let a = start .args in (
       start .pre .0,
-      rw (c .before .accepted-byte .ensures, fits-is seen)
-          (accepted-channel (a .d) (row (a .k1) (a .k2) (a .sent1) (a .sent2)) fit),
+      rw (c .accepted-byte .ensures, fits-is seen)
+          (accepted-channel (a .d) (row (a .k1) (a .k2) (a .sent1) (a .sent2)) (start .pre .1)),
     )
 
 opens-requires-2 : tie.Need-opens-requires-2
@@ -114,11 +113,14 @@ accepted-byte-requires-2 c κs = search needs
 record-after-requires : tie.Need-record-after-requires
 record-after-requires c κs = search needs
 
+left-open-requires : tie.Need-left-open-requires
+left-open-requires c κs = search needs
+
 returns : tie.Need-returns
 returns c =
     let stored = c .before .before in
     let opened = stored .before .before in
-    let seen = opened .before .before .before .before in
+    let seen = opened .before .before .before in
     let cause = seen .before .before .before .before .before in
     let start = rowStart seen in
     let a = start .args in
@@ -133,8 +135,8 @@ returns c =
     let unseen-is = seen .before .before .before .before .unseen .ensures ∙ (λ i. unseen (command i) (x i)) in
     let second-is = seen .before .before .before .second-fits .ensures in
     let fits = fits-is seen in
-    let alarm-is = opened .before .before .alarm .ensures in
-    let far = opened .before .before .before .accepted-byte .ensures ∙ (λ i. acceptedByte (fits i) (a .k1) (s .k1)) in
+    let alarm-is = c .before .alarm .ensures in
+    let far = opened .before .before .accepted-byte .ensures ∙ (λ i. acceptedByte (fits i) (a .k1) (s .k1)) in
     let far2 = stored .before .accepted-byte2 .ensures ∙ (λ i. acceptedByte (fits i) (a .k2) (s .k2)) in
     let heard = opened .before .opens .ensures ∙ (λ i. opensAt (rank i) (far i) (x i) (a .sent2) (local i)) in
     let idle = opened .opens2 .ensures ∙ (λ i. opensAt (rank i) idleK1 (x i) (a .sent2) (local i)) in
@@ -142,14 +144,9 @@ returns c =
     cause .before .before .before .before .before .usable-in .ensures
     ∙ ap (λ (v : ℕ). usableIn v (s .n)) sent-number
     ∙ usable-looked requests (a .sent1) (s .n) (start .pre .1 .sections) in
-    let controller = stored .record-after .ensures ∙ (λ i. recordAfter s (now i) (far i) (far2 i) (a .sent1)) in
-    (λ i.
-    record {
-      controller = controller i;
-      heard = carried i && (not (alarm-is i) && heard i && (fits i || a .d .heard));
-      idle =
-          carried i && (not (alarm-is i) && not (fits i) && idle i && a .d .idle || unseen-is i && second-is i);
-    })
+    let after = stored .record-after .ensures ∙ (λ i. recordAfter s (now i) (far i) (far2 i) (a .sent1)) in
+    c .left-open .ensures
+    ∙ (λ i. leftOpen (a .d) (after i) (carried i) (not (alarm-is i)) (fits i) (heard i) (idle i) (unseen-is i && second-is i))
     ∙ next-ranked (a .d) (row (a .k1) (a .k2) (a .sent1) (a .sent2)) (start .pre .1)
 
 pub next-spec : {M : Type 1} → statement M
@@ -173,9 +170,10 @@ next-spec =
     usable-in-requires-2
     second-usable-requires
     accepted-byte-requires
-    alarm-requires
     opens-requires
     opens-requires-2
     accepted-byte-requires-2
     record-after-requires
+    alarm-requires
+    left-open-requires
     returns)
