@@ -18,7 +18,7 @@ use Rattle.controller.specs.Rules.{request, lockout, forced, manual, wai
 use Rattle.controller.specs.Rules.{failCode, degradeCode, condition, conditionsFrom, isWait}
 use Rattle.controller.specs.Refusals.{otherPriority, againstMask}
 use Rattle.controller.proofs.Apart.{condition-has}
-use Rattle.controller.proofs.Usability.{section-bounds}
+use Rattle.pair.proofs.Looking.{fit-bounds}
 
 module _ (n mask now : ℕ) where
   pub record Sendable (r : Request) : Type 0 where
@@ -155,5 +155,5 @@ pub sendable-room : (n mask now : ℕ) (r : Request) → sectionsFit n ≡ true 
 sendable-room n mask now r fits able =
     let below = carried-below 16 requests n (r .code) (r .channel) refl (able .carried) in
     let within = carried-within requests n (r .code) (r .channel) (able .carried) in
-    let bounds = section-bounds n fits .1 in
+    let bounds = fit-bounds n fits .1 in
     (omega arith, omega arith)

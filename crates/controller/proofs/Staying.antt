@@ -25,7 +25,7 @@ use Rattle.controller.specs.declared.Outcome.{Outcome}
 use Rattle.controller.proofs.Apart.{none-rank, other-rank, command-kind, wait-kind, no-command, no-wait, own-channel}
 use Rattle.controller.proofs.Candidates.{candidate-split, candidate-one}
 use Rattle.controller.proofs.Sections.{some-section, section-one}
-use Rattle.controller.proofs.Usability.{section-bounds}
+use Rattle.pair.proofs.Looking.{fit-bounds}
 use Rattle.controller.proofs.Inputs.{WellFormed, well-formed}
 use Rattle.controller.proofs.Keeping.{Kept, Sent, k1-back, not-refused, step-keeps}
 
@@ -186,7 +186,7 @@ module _ (s : Controller) (i j : Input) (c : ℕ) where
           let own = own-channel (s .mask) c (getD (conditionsIn s i) c 0) some in
           let within = asking-within (s .mask) c (conditionsIn s i) some in
           let number = well .number in
-          let bounds = section-bounds (s .n) (well .fits) .1 in
+          let bounds = fit-bounds (s .n) (well .fits) .1 in
           omega arith
 
       last-sent : asked (before .controller .sent) ≡ asks-for

@@ -1,14 +1,13 @@
 -- Laws of the decoder's answer, as the rule on the accepted pair and refusal 3 use them.
 use mathlib.Core.Path.{_≡_, refl, sym, subst, _∙_}
-use mathlib.Core.Bool.{Bool, true, false, and-eq-true-iff, false≢true}
+use mathlib.Core.Bool.{Bool, true, false, false≢true}
 use mathlib.Core.List.{[], _∷_}
 use mathlib.Core.Logic.{inl, inr}
-use Prim.Native.Nat.{ℕ, _≤_}
+use Prim.Native.Nat.{ℕ}
 use native.Mathlib.Omega.{arith}
-use lib.Dec.{leb, leb·zero}
+use lib.Dec.{leb·zero}
 use denote.Enum.Declared.{tagOf}
 use types.Run.{OneOf}
-use borrow.Author.Tests.{leb-true}
 use Rattle.pair.specs.Request.{requests, carries}
 use Rattle.pair.specs.Marks.{codeOf, channelOf, usable}
 use Rattle.pair.specs.Coder.{sectionsFit, decodingCase, pairOf, decoding}
@@ -17,11 +16,6 @@ use Rattle.pair.specs.declared.Decoded.the-variants as decoded
 use Rattle.pair.proofs.Decoded.{the-type}
 use Rattle.pair.proofs.Coding.{nothing-found, fit-decoding, usable-parts, parts-usable}
 use Rattle.controller.specs.Settings.{idleK2}
-
-pub section-bounds : (n : ℕ) → sectionsFit n ≡ true → (1 ≤ n) × (n ≤ 14)
-section-bounds n h =
-    let both = and-eq-true-iff (leb 1 n) (leb n 14) .0 h in
-    (leb-true 1 n (both .0), leb-true n 14 (both .1))
 
 -- an answer that is not the usable case comes of a pair that is not usable
 pub other-unusable : (n k1 k2 : ℕ) (d : Decoded) → sectionsFit n ≡ true → d ≡ decodingCase (decoding n k1 k2)

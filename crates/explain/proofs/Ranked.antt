@@ -3,13 +3,10 @@
 use mathlib.Core.Path.{_≡_, refl}
 use mathlib.Core.Bool.{Bool, true, false, false≢true}
 use Prim.Native.Nat.{ℕ, _≤_}
-use native.Mathlib.Omega.{arith}
 use Rattle.pair.specs.Request.{requests, rankOf}
 use Rattle.pair.specs.Marks.{codeOf, channelOf, usable}
 use Rattle.pair.specs.Table.{usableFor, valueIn, numberFor}
-use Rattle.pair.specs.Coder.{sectionsFit}
-use Rattle.pair.proofs.Rows.{carried-within}
-use Rattle.pair.proofs.Looking.{fit-bounds, rank-looked}
+use Rattle.pair.proofs.Looking.{carried-most, rank-looked}
 use Rattle.pair.proofs.Coding.{usable-parts}
 use Rattle.request.specs.declared.Request.{Request}
 use Rattle.controller.specs.Rules.{asked, isCommand, held, rankOfRequest}
@@ -22,13 +19,6 @@ use Rattle.explain.specs.declared.Records.{Records}
 pub look-rank : (k1 : ℕ) → channelOf k1 ≤ 14 → valueIn (numberFor requests k1) .rank ≡ rankOfRequest (asked k1)
 unfolding rankOf
 look-rank k1 within = rank-looked requests k1 within
-
--- a K1 that stands in the table of a group has such a channel
-pub carried-channel : (n k1 : ℕ) → sectionsFit n ≡ true → usableFor requests k1 n ≡ true → channelOf k1 ≤ 14
-carried-channel n k1 fits e =
-    let within = carried-within requests n (codeOf k1) (channelOf k1) e in
-    let most = fit-bounds n fits .1 in
-    omega (arith, within, most)
 
 -- of a request that is no command it does not matter which rank it has
 command-ranked : (hold x : Request) → commandedAt (rankOfRequest x) hold (held x) ≡ commanded hold (held x)
@@ -56,7 +46,7 @@ module _ (d : Records) (r : Row) (fit : Fit d) where
           → nextAt (valueIn (numberFor requests (r .sentK1)) .rank) ≡ next d r
       go true e =
           rw (
-            look-rank (r .sentK1) (carried-channel (d .controller .n) (r .sentK1) (fit .sections) e),
+            look-rank (r .sentK1) (carried-most requests (d .controller .n) (codeOf (r .sentK1)) (channelOf (r .sentK1)) (fit .sections) e),
             command-ranked (held (asked (d .controller .sent))) x,
           )
       go false e = rw e
@@ -69,7 +59,7 @@ module _ (d : Records) (r : Row) (fit : Fit d) where
           → channelOf (acceptedByte (usable (d .controller .n) (r .k1) (r .k2)) (r .k1) (d .controller .k1)) ≤ 14
       go true e =
           rw e
-          (carried-channel (d .controller .n) (r .k1) (fit .sections)
+          (carried-most requests (d .controller .n) (codeOf (r .k1)) (channelOf (r .k1)) (fit .sections)
           (usable-parts (d .controller .n) (r .k1) (r .k2) (fit .sections) e .carried))
       go false e = rw e (fit .accepted)
 
@@ -81,7 +71,7 @@ module _ (d : Records) (r : Row) (fit : Fit d) where
       go true e =
           record {
             sections = fit .sections;
-            sent = carried-channel (d .controller .n) (r .sentK1) (fit .sections) e;
+            sent = carried-most requests (d .controller .n) (codeOf (r .sentK1)) (channelOf (r .sentK1)) (fit .sections) e;
             accepted = accepted-channel;
           }
       go false e = absurd (false≢true (rw e at alive))

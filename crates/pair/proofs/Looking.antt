@@ -129,6 +129,13 @@ unheld-rank rows code c n within none = go (eqb c 0) refl
         let held = sym (carries-section rows n code c some) ∙ none in
         rw z (unheld rows a-section code (rw (le-leb c n within, and-true (heldIn rows a-section code)) at held))
 
+-- no group has a channel above 14
+pub carried-most : (rows : List Row) (n code c : ℕ) → sectionsFit n ≡ true → carries rows n code c ≡ true → c ≤ 14
+carried-most rows n code c fits e =
+    let within = carried-within rows n code c e in
+    let most = fit-bounds n fits .1 in
+    omega (arith, within, most)
+
 -- digits that fit are read back
 digits : (r l g m : ℕ) → l < 16 → g < 16 → m < 16
     → valueIn (r * 4096 + l * 256 + g * 16 + m) ≡ record { rank = r; least = l; greatest = g; mark = m }
@@ -224,9 +231,8 @@ module _ (rows : List Row) (k1 : ℕ) where
     where
       go : (t : Bool) → usableFor rows k1 n ≡ t → readIn (numberFor rows k1) n ≡ readBy rows n k1
       go true e =
-          let within = carried-within rows n (codeOf k1) (channelOf k1) e in
-          let most = fit-bounds n fits .1 in
-          rw (listed-looked, usable-looked n fits, e, rank-looked (omega (arith, within, most)))
+          let within = carried-most rows n (codeOf k1) (channelOf k1) fits e in
+          rw (listed-looked, usable-looked n fits, e, rank-looked within)
       go false e = rw (listed-looked, usable-looked n fits, e)
 
   pub number-at : k1 < 256 → getD (tableOf rows) k1 0 ≡ numberFor rows k1

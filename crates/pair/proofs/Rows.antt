@@ -62,35 +62,9 @@ carries-section (r ∷ rest) n code c h =
     (carries-section rest n code c h)
     ∙ regroup (eqb code (r .code)) (includes (r .channels) a-section) (heldIn rest a-section code) (leb c n))
 
-or-four : (e z s a b : Bool) → z || s ≡ true → e || (a || b) ≡ (e && z || a) || (e && s || b)
-or-four true true s a b h = refl
-or-four true false true true b h = refl
-or-four true false true false b h = refl
-or-four true false false a b h = absurd (false≢true h)
-or-four false z s a b h = refl
-
-some-class : (channels : Channels) → includes channels channel-0 || includes channels a-section ≡ true
-some-class zero-only = refl
-some-class sections = refl
-some-class zero-and-sections = refl
-
-held-listed : (rows : List Row) (code : ℕ) → listed rows code ≡ heldIn rows channel-0 code || heldIn rows a-section code
-unfolding listed heldIn
-held-listed [] code = refl
-held-listed (r ∷ rest) code =
-    ap (λ (o : Bool). eqb code (r .code) || o) (held-listed rest code)
-    ∙ or-four (eqb code (r .code)) (includes (r .channels) channel-0) (includes (r .channels) a-section)
-    (heldIn rest channel-0 code) (heldIn rest a-section code) (some-class (r .channels))
-
 pub and-true : (b : Bool) → b && true ≡ b
 and-true true = refl
 and-true false = refl
-
--- with one section, a code in some row carries channel 0 or channel 1
-pub listed-carries : (rows : List Row) (code : ℕ) → listed rows code ≡ carries rows 1 code 0 || carries rows 1 code 1
-listed-carries rows code =
-    held-listed rows code
-    ∙ sym (rw (carries-0, carries-section rows 1 code 1 (omega arith), and-true (heldIn rows a-section code)))
 
 abbrev pub codeBelow : ℕ → Row → Bool
 codeBelow bound r = ltb (r .code) bound

@@ -12,7 +12,7 @@ use Rattle.controller.specs.Rules.{asked, accepting, held, kept, given, 
 use Rattle.controller.specs.Rules.{decided}
 use Rattle.controller.specs.Step.{protection, waitOf, moved, actsOn}
 use Rattle.controller.proofs.Apart.{command-kind, wait-kind}
-use Rattle.controller.proofs.Usability.{section-bounds}
+use Rattle.pair.proofs.Looking.{fit-bounds}
 use Rattle.controller.proofs.Inputs.{WellFormed, well-formed}
 use Rattle.controller.proofs.Alarm.{acts-protection, acts-working, acts-unrefused}
 use Rattle.controller.proofs.Sendable.{sendable-room}
@@ -136,7 +136,7 @@ local-request-requires c κs =
     let start = c .before .before .before .before .before .before .before .before .before .before .before .before .before in
     let a = start .args in
     let number = well start .number in
-    let bounds = section-bounds (a .s .n) (well start .fits) in
+    let bounds = fit-bounds (a .s .n) (well start .fits) in
     let stood = c .before .before in (
       omega arith,
       omega arith,
@@ -169,7 +169,7 @@ answering-requires c κs =
     let now = waitOf (a .s) (asked (a .s .sent)) (a .command) in
     let room = sendable-room (a .s .n) (a .s .mask) now (sentOf (c .before .before)) (well start .fits) able in
     let far = far-channel (a .s) acts (a .command) (a .c) (acts-well start) failed (a .k1) (a .k2) in
-    let bounds = section-bounds (a .s .n) (well start .fits) in
+    let bounds = fit-bounds (a .s .n) (well start .fits) in
     rw (
       sent-is (c .before .before),
       c .before .before .before .before .before .before .before .before .before .before .before .before .accepting .ensures,

@@ -7,20 +7,17 @@ use borrow.Author.Needs.{needs}
 use Rattle.pair.specs.Request.{requests, carries}
 use Rattle.pair.specs.Marks.{codeOf, channelOf}
 use Rattle.pair.specs.Coder.{sectionsFit}
-use Rattle.pair.proofs.Rows.{beyond-carries, carried-within}
-use Rattle.pair.proofs.Looking.{fit-bounds, usable-looked}
+use Rattle.pair.proofs.Rows.{beyond-carries}
+use Rattle.pair.proofs.Looking.{carried-most, usable-looked}
 use Rattle.pair.proofs.table.carried.Statement.{statement}
 use Rattle.pair.proofs.table.carried.Tie as tie
 
--- no group has a channel above 14
 channel-beyond : (n code c : ℕ) → sectionsFit n ≡ true → 16 ≤ c → carries requests n code c ≡ false
 channel-beyond n code c fits above = go (carries requests n code c) refl
   where
     go : (t : Bool) → carries requests n code c ≡ t → carries requests n code c ≡ false
     go true e =
-        let within = carried-within requests n code c e in
-        let most = fit-bounds n fits .1 in
-        absurd (omega (arith, within, most))
+        let most = carried-most requests n code c fits e in absurd (omega arith)
     go false e = e
 
 returns : tie.Need-returns
