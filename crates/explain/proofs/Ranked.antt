@@ -51,16 +51,31 @@ module _ (d : Records) (r : Row) (fit : Fit d) where
           )
       go false e = rw e
 
-  -- the K1 that is accepted
-  pub accepted-channel : channelOf (acceptedByte (usable (d .controller .n) (r .k1) (r .k2)) (r .k1) (d .controller .k1)) ≤ 14
+  received-channel : usable (d .controller .n) (r .k1) (r .k2) ≡ true → channelOf (r .k1) ≤ 14
+  received-channel e =
+      carried-most requests (d .controller .n) (codeOf (r .k1)) (channelOf (r .k1)) (fit .sections)
+      (usable-parts (d .controller .n) (r .k1) (r .k2) (fit .sections) e .carried)
+
+  -- the rank of the K1 that is accepted, and its channel
+  pub accepted-rank :
+      acceptedByte (usable (d .controller .n) (r .k1) (r .k2)) (valueIn (numberFor requests (r .k1)) .rank)
+      (rankOfRequest (asked (d .controller .k1)))
+      ≡ rankOfRequest (asked (acceptedByte (usable (d .controller .n) (r .k1) (r .k2)) (r .k1) (d .controller .k1)))
+  accepted-rank = go (usable (d .controller .n) (r .k1) (r .k2)) refl
+    where
+      go : (t : Bool) → usable (d .controller .n) (r .k1) (r .k2) ≡ t
+          → acceptedByte (usable (d .controller .n) (r .k1) (r .k2)) (valueIn (numberFor requests (r .k1)) .rank)
+          (rankOfRequest (asked (d .controller .k1)))
+          ≡ rankOfRequest (asked (acceptedByte (usable (d .controller .n) (r .k1) (r .k2)) (r .k1) (d .controller .k1)))
+      go true e = rw e (look-rank (r .k1) (received-channel e))
+      go false e = rw e
+
+  accepted-channel : channelOf (acceptedByte (usable (d .controller .n) (r .k1) (r .k2)) (r .k1) (d .controller .k1)) ≤ 14
   accepted-channel = go (usable (d .controller .n) (r .k1) (r .k2)) refl
     where
       go : (t : Bool) → usable (d .controller .n) (r .k1) (r .k2) ≡ t
           → channelOf (acceptedByte (usable (d .controller .n) (r .k1) (r .k2)) (r .k1) (d .controller .k1)) ≤ 14
-      go true e =
-          rw e
-          (carried-most requests (d .controller .n) (codeOf (r .k1)) (channelOf (r .k1)) (fit .sections)
-          (usable-parts (d .controller .n) (r .k1) (r .k2) (fit .sections) e .carried))
+      go true e = rw e (received-channel e)
       go false e = rw e (fit .accepted)
 
   pub next-fit : live (next d r) ≡ true → Fit (next d r)

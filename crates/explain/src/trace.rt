@@ -44,12 +44,11 @@ fn rank_at(table: &[u16; 256], k1: u8) -> u8
     rank_in(table[k1 as usize])
 }
 
-fn opens(table: &[u16; 256], k1: u8, x: Request, rank: u8, k2: u8, local: bool) -> bool
-    requires { ⌜ (now table ≡ tableOf requests) × (channelOf k1 ≤ 14) ⌝ }
+fn opens(k1: u8, theirs: u8, x: Request, rank: u8, k2: u8, local: bool) -> bool
+    requires { ⌜ theirs ≡ rankOfRequest (asked k1) ⌝ }
     ensures { λ r. ⌜ r ≡ opensAt rank k1 x k2 local ⌝ }
 {
     let far = asked(k1);
-    let theirs = rank_at(table, k1);
     let bridged = bridge(far.channel, x.channel, x.code == NOTHING);
     answers(far, theirs, x, rank, local) & second_fits(k2, bridged)
 }
@@ -112,10 +111,13 @@ pub(crate) fn next(table: &[u16; 256], d: Records, k1: u8, k2: u8, sent1: u8, se
     let command = commanded(last, rank_at(table, s.sent), x, rank);
     let local = arises(s.mask, command, now, last, x);
     let hidden = unseen(command, x) & second_fits(sent2, 0);
-    let fits = usable_in(table[k1 as usize], s.n) & second_usable(s.n, k2);
+    let received = table[k1 as usize];
+    let fits = usable_in(received, s.n) & second_usable(s.n, k2);
     let far = accepted_byte(fits, k1, s.k1);
-    let opened = opens(table, far, x, rank, sent2, local);
-    let opened_idle = opens(table, Controller::IDLE_K1, x, rank, sent2, local);
+    let theirs = accepted_byte(fits, rank_in(received), rank_at(table, s.k1));
+    let opened = opens(far, theirs, x, rank, sent2, local);
+    let idle = Controller::IDLE_K1;
+    let opened_idle = opens(idle, rank_at(table, idle), x, rank, sent2, local);
     let after = record_after(s, now, far, accepted_byte(fits, k2, s.k2), sent1);
     // A row with an alarm is one with section 0 failed (02, c).
     let quiet = !alarm(k2);

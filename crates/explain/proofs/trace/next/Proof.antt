@@ -1,7 +1,8 @@
 -- `next` meets its contract: a look at the table gives what the rows say of each K1.
-use mathlib.Core.Path.{_≡_, ap, _∙_}
+use mathlib.Core.Path.{_≡_, sym, ap, _∙_}
 use mathlib.Core.Bool.{not, _&&_}
 use Prim.Native.Nat.{ℕ, _<_}
+use native.Mathlib.Omega.{arith}
 use lib.ListN.{getD}
 use Rattle.pair.specs.Request.{requests}
 use Rattle.pair.specs.Marks.{usable, secondUsable}
@@ -9,12 +10,12 @@ use Rattle.pair.specs.Table.{usableFor, valueIn, numberFor, usableIn}
 use Rattle.pair.proofs.Looking.{number-at, usable-looked}
 use Rattle.pair.proofs.Coding.{usable-test}
 use Rattle.controller.specs.Settings.{idleK1}
-use Rattle.controller.specs.Rules.{held}
+use Rattle.controller.specs.Rules.{asked, rankOfRequest, held}
 use Rattle.controller.specs.Step.{waitOf}
 use Rattle.explain.specs.Capture.{row}
 use Rattle.explain.specs.Cause.{commandedAt, arises, unseen}
 use Rattle.explain.specs.Trace.{opensAt, recordAfter, acceptedByte, leftOpen}
-use Rattle.explain.proofs.Ranked.{next-ranked, accepted-channel}
+use Rattle.explain.proofs.Ranked.{next-ranked, accepted-rank}
 use borrow.Author.Needs.{needs}
 use Rattle.explain.proofs.trace.next.Statement.{statement}
 use Rattle.explain.proofs.trace.next.Tie as tie
@@ -40,6 +41,29 @@ fits-is c =
     let second : c .second-usable .result ≡ secondUsable n (a .k2) = c .second-usable .ensures in
     (λ i. first i && second i) ∙ usable-test n (a .k1) (a .k2)
 
+-- the accepted K1, and its rank
+far-is : (c : tie.After-accepted-byte2) →
+    let a = rowStart (c .before .before .before .before) .args in
+    c .before .before .before .accepted-byte .result
+    ≡ acceptedByte (usable (a .d .controller .n) (a .k1) (a .k2)) (a .k1) (a .d .controller .k1)
+far-is c =
+    let seen = c .before .before .before .before in
+    let a = rowStart seen .args in
+    c .before .before .before .accepted-byte .ensures ∙ (λ i. acceptedByte (fits-is seen i) (a .k1) (a .d .controller .k1))
+
+theirs-is : (c : tie.After-accepted-byte2)
+    → c .accepted-byte2 .result ≡ rankOfRequest (asked (c .before .before .before .accepted-byte .result))
+theirs-is c =
+    let seen = c .before .before .before .before in
+    let start = rowStart seen in
+    let a = start .args in
+    let rank =
+    c .before .before .rank-in2 .ensures ∙ ap (λ (v : ℕ). valueIn v .rank) (looked start (a .k1) (search needs)) in
+    c .accepted-byte2 .ensures
+    ∙ (λ i. acceptedByte (fits-is seen i) (rank i) (c .before .rank-at2 .ensures i))
+    ∙ accepted-rank (a .d) (row (a .k1) (a .k2) (a .sent1) (a .sent2)) (start .pre .1)
+    ∙ sym (ap (λ (k1 : ℕ). rankOfRequest (asked k1)) (far-is c))
+
 asked-requires : tie.Need-asked-requires
 asked-requires c κs = search needs
 
@@ -51,6 +75,9 @@ mul-sent c = search needs
 
 element-copy-out-sent : tie.Need-element-copy-out-sent
 element-copy-out-sent c = search needs
+
+usable-in-requires : tie.Need-usable-in-requires
+usable-in-requires c κs = search needs
 
 rank-in-requires : tie.Need-rank-in-requires
 rank-in-requires c κs = search needs
@@ -73,14 +100,14 @@ unseen-requires c κs = search needs
 second-fits-requires : tie.Need-second-fits-requires
 second-fits-requires c κs = search needs
 
-mul-usable-in : tie.Need-mul-usable-in
-mul-usable-in c = search needs
+mul-received : tie.Need-mul-received
+mul-received c = search needs
 
-element-copy-out-usable-in : tie.Need-element-copy-out-usable-in
-element-copy-out-usable-in c = search needs
+element-copy-out-received : tie.Need-element-copy-out-received
+element-copy-out-received c = search needs
 
-usable-in-requires : tie.Need-usable-in-requires
-usable-in-requires c κs = search needs
+usable-in-requires-2 : tie.Need-usable-in-requires-2
+usable-in-requires-2 c κs = search needs
 
 second-usable-requires : tie.Need-second-usable-requires
 second-usable-requires c κs = search needs
@@ -88,30 +115,32 @@ second-usable-requires c κs = search needs
 accepted-byte-requires : tie.Need-accepted-byte-requires
 accepted-byte-requires c κs = search needs
 
-alarm-requires : tie.Need-alarm-requires
-alarm-requires c κs = search needs
+rank-in-requires-2 : tie.Need-rank-in-requires-2
+rank-in-requires-2 c κs = search needs
 
-opens-requires : tie.Need-opens-requires
-opens-requires c κs =
-    let seen = c .before in
-    let start = rowStart seen in
-    let a = start .args in (
-      start .pre .0,
-      rw (c .accepted-byte .ensures, fits-is seen)
-          (accepted-channel (a .d) (row (a .k1) (a .k2) (a .sent1) (a .sent2)) (start .pre .1)),
-    )
-
-opens-requires-2 : tie.Need-opens-requires-2
-opens-requires-2 c κs = search needs
-
-usable-in-requires-2 : tie.Need-usable-in-requires-2
-usable-in-requires-2 c κs = search needs
+rank-at-requires-2 : tie.Need-rank-at-requires-2
+rank-at-requires-2 c κs = search needs
 
 accepted-byte-requires-2 : tie.Need-accepted-byte-requires-2
 accepted-byte-requires-2 c κs = search needs
 
+opens-requires : tie.Need-opens-requires
+opens-requires c κs = theirs-is c
+
+rank-at-requires-3 : tie.Need-rank-at-requires-3
+rank-at-requires-3 c κs = (rowStart (c .before .before .before .before .before) .pre .0, omega arith)
+
+opens-requires-2 : tie.Need-opens-requires-2
+opens-requires-2 c κs = search needs
+
+accepted-byte-requires-3 : tie.Need-accepted-byte-requires-3
+accepted-byte-requires-3 c κs = search needs
+
 record-after-requires : tie.Need-record-after-requires
 record-after-requires c κs = search needs
+
+alarm-requires : tie.Need-alarm-requires
+alarm-requires c κs = search needs
 
 left-open-requires : tie.Need-left-open-requires
 left-open-requires c κs = search needs
@@ -119,8 +148,9 @@ left-open-requires c κs = search needs
 returns : tie.Need-returns
 returns c =
     let stored = c .before .before in
-    let opened = stored .before .before in
-    let seen = opened .before .before .before in
+    let opened = stored .before .before .before .before in
+    let theirs = opened .before in
+    let seen = theirs .before .before .before .before in
     let cause = seen .before .before .before .before .before in
     let start = rowStart seen in
     let a = start .args in
@@ -136,10 +166,10 @@ returns c =
     let second-is = seen .before .before .before .second-fits .ensures in
     let fits = fits-is seen in
     let alarm-is = c .before .alarm .ensures in
-    let far = opened .before .before .accepted-byte .ensures ∙ (λ i. acceptedByte (fits i) (a .k1) (s .k1)) in
-    let far2 = stored .before .accepted-byte2 .ensures ∙ (λ i. acceptedByte (fits i) (a .k2) (s .k2)) in
-    let heard = opened .before .opens .ensures ∙ (λ i. opensAt (rank i) (far i) (x i) (a .sent2) (local i)) in
-    let idle = opened .opens2 .ensures ∙ (λ i. opensAt (rank i) idleK1 (x i) (a .sent2) (local i)) in
+    let far = far-is theirs in
+    let far2 = stored .before .accepted-byte3 .ensures ∙ (λ i. acceptedByte (fits i) (a .k2) (s .k2)) in
+    let heard = opened .opens .ensures ∙ (λ i. opensAt (rank i) (far i) (x i) (a .sent2) (local i)) in
+    let idle = stored .before .before .opens2 .ensures ∙ (λ i. opensAt (rank i) idleK1 (x i) (a .sent2) (local i)) in
     let carried =
     cause .before .before .before .before .before .usable-in .ensures
     ∙ ap (λ (v : ℕ). usableIn v (s .n)) sent-number
@@ -165,14 +195,18 @@ next-spec =
     arises-requires
     unseen-requires
     second-fits-requires
-    mul-usable-in
-    element-copy-out-usable-in
+    mul-received
+    element-copy-out-received
     usable-in-requires-2
     second-usable-requires
     accepted-byte-requires
-    opens-requires
-    opens-requires-2
+    rank-in-requires-2
+    rank-at-requires-2
     accepted-byte-requires-2
+    opens-requires
+    rank-at-requires-3
+    opens-requires-2
+    accepted-byte-requires-3
     record-after-requires
     alarm-requires
     left-open-requires
