@@ -17,6 +17,8 @@
  *    9  the capture has over 16,384 steps    28  bytes are left over
  *   10  no pair codes that record            29  the output has too little room
  *                                            30  the bodies are not as long as the contents say
+ *                                            31  the n of a capture is not 1 to 14
+ *                                            32  the mask of a capture has a bit at its n or above
  *
  * Where several apply, one is returned: each function says below which refusals it has and in which order it asks for
  * them.
@@ -106,8 +108,8 @@ uint8_t chainplater_judge(uint8_t n, uint16_t mask, uint16_t wait, const uint8_t
                           uint8_t out[CHAINPLATER_VERDICT]);
 
 /*
- * The contents of a book. Refusals 20 to 24, in this order; then entry by entry 25, 26, 27, so that 27 of one entry comes
- * before 25 of the next; then 28.
+ * The contents of a book. Refusals 20 to 24, in this order; then entry by entry 25, 31, 32, 26, 27, so that 27 of one
+ * entry comes before 25 of the next; then 28.
  * out: 0 the count of captures, then 64 places of 12 bytes: n (1), spare (1), mask (2), W (2), offset of the body in
  * the book (4), steps (2). The places past the count are zeros; all is 0 where refused. A body is four bytes a
  * step, from its offset.
@@ -116,8 +118,8 @@ uint8_t chainplater_read(const uint8_t *book, size_t length, uint8_t out[CHAINPL
 
 /*
  * The book of some contents, laid out as chainplater_read answers them, and of the bodies joined in that order. The
- * spare and offset bytes of the places, and the places past the count, are not looked at. Refusals 23, 30, 20, 29, in
- * this order.
+ * spare and offset bytes of the places, and the places past the count, are not looked at. Refusals 23; then entry by
+ * entry 31, 32, so that 32 of one entry comes before 31 of the next; then 30, 20, 29, in this order.
  * out: the book at its start, the bytes behind it as they were; refused: all as it was.
  * size: the number of bytes of the book (4); zeros where refused.
  */

@@ -1,8 +1,11 @@
 //! The capture book (paper: "Capture book"), with the refusals that its reader
-//! and its writer can meet (paper: "Numbered refusals", 20 to 30).
+//! and its writer can meet (paper: "Numbered refusals", 20 to 30, and 02, f, for 31
+//! and 32).
 //!
 //! The offsets of a book follow from its steps, since its bodies leave no gaps.
 //! So the reader has only to check them, and the writer works them out.
+
+use crate::settings::{self, Unfit};
 
 /// The bound of refusal 20. No book is as long as that: the contents come to two
 /// bytes more than a multiple of four, and the bodies to a multiple of four, so
@@ -35,6 +38,10 @@ pub enum Refusal {
     Room = 29,
     /// The joined bodies are not as long as the steps say.
     Bodies = 30,
+    /// The n of an entry is not one of a group.
+    Sections = 31,
+    /// The mask of an entry has a bit at its n or above.
+    Mask = 32,
 }
 
 impl Refusal {
@@ -43,9 +50,17 @@ impl Refusal {
     }
 }
 
-/// What the contents say of one capture. Any n and any mask may stand here: it
-/// is for the judge, not the reader, to turn them down (paper: "Numbered
-/// refusals", below the table).
+impl From<Unfit> for Refusal {
+    fn from(unfit: Unfit) -> Self {
+        match unfit {
+            Unfit::Sections => Self::Sections,
+            Unfit::Mask => Self::Mask,
+        }
+    }
+}
+
+/// What the contents say of one capture. Any numbers may be handed to [`write`], but
+/// in a book n and mask are settings that the judge takes (paper: 02, f).
 #[derive(Clone, Copy, Debug, PartialEq, Eq)]
 pub struct Entry {
     pub n: u8,
@@ -117,8 +132,8 @@ impl Contents {
 }
 
 /// Reads the contents of a book. When it does not refuse, the whole book is
-/// sound: every body lies where its entry says, and nothing lies between or
-/// behind them.
+/// sound: every body lies where its entry says, nothing lies between or behind
+/// them, and every capture can be judged.
 pub fn read(book: &[u8]) -> Result<Contents, Refusal> {
     let (count, rows) = read_head(book)?;
     let mut contents = Contents {
@@ -143,7 +158,11 @@ pub fn read(book: &[u8]) -> Result<Contents, Refusal> {
 pub fn write(contents: &Contents, bodies: &[u8], out: &mut [u8]) -> Result<usize, Refusal> {
     let entries = contents.entries().ok_or(Refusal::Count)?;
     // The greatest sum is 64 * 65,535 * 4, far from an overflow.
-    let expected: usize = entries.iter().map(Entry::body_bytes).sum();
+    let mut expected = 0;
+    for entry in entries {
+        settings::check(entry.n, entry.mask)?;
+        expected += entry.body_bytes();
+    }
     if bodies.len() != expected {
         return Err(Refusal::Bodies);
     }
@@ -198,13 +217,14 @@ fn read_head(book: &[u8]) -> Result<(u8, &[[u8; ENTRY_BYTES]]), Refusal> {
     Ok((count, rows))
 }
 
-/// Refusals 25 to 27 of an entry whose body belongs at `start`. Answers where
-/// the body ends. Each entry goes through all three before the next is looked
-/// at (paper: "Numbered refusals", the orders).
+/// Refusals 25, 31, 32, 26 and 27 of an entry whose body belongs at `start`.
+/// Answers where the body ends. Each entry goes through all of them before the next
+/// is looked at (paper: "Numbered refusals", the orders; 02, f).
 fn check_entry(entry: &Entry, start: usize, book_bytes: usize) -> Result<usize, Refusal> {
     if entry.spare != 0 {
         return Err(Refusal::Spare);
     }
+    settings::check(entry.n, entry.mask)?;
     if usize::try_from(entry.offset) != Ok(start) {
         return Err(Refusal::Offset);
     }

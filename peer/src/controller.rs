@@ -6,6 +6,7 @@
 //! read back from the K1 last sent.
 
 use crate::pair::{self, Received, Request};
+use crate::settings::{self, Unfit};
 use std::cmp::Reverse;
 
 /// The greatest condition a section can have (paper: "One step").
@@ -37,6 +38,15 @@ pub enum Refusal {
 impl Refusal {
     pub fn number(self) -> u8 {
         self as u8
+    }
+}
+
+impl From<Unfit> for Refusal {
+    fn from(unfit: Unfit) -> Self {
+        match unfit {
+            Unfit::Sections => Self::Sections,
+            Unfit::Mask => Self::Mask,
+        }
     }
 }
 
@@ -125,7 +135,7 @@ impl Answer {
 
 /// Makes the record of an end that has neither sent nor accepted anything yet.
 pub fn fresh(n: u8, mask: u16, w: u16) -> Result<Record, Refusal> {
-    check_settings(n, mask)?;
+    settings::check(n, mask)?;
     Ok(Record {
         n,
         mask,
@@ -142,15 +152,6 @@ pub fn step(record: Record, k1: u8, k2: u8, conditions: &[u8], command: u8, chan
     match Step::admit(record, conditions, command, channel) {
         Ok(step) => step.answer(k1, k2),
         Err(refusal) => Answer::refused(refusal, record),
-    }
-}
-
-fn check_settings(n: u8, mask: u16) -> Result<(), Refusal> {
-    pair::check_sections(n).map_err(|_| Refusal::Sections)?;
-    if mask >> n == 0 {
-        Ok(())
-    } else {
-        Err(Refusal::Mask)
     }
 }
 
@@ -284,7 +285,7 @@ impl<'a> Step<'a> {
         command: u8,
         channel: u8,
     ) -> Result<Self, Refusal> {
-        check_settings(record.n, record.mask)?;
+        settings::check(record.n, record.mask)?;
         let (accepted, last) = record.read().ok_or(Refusal::Record)?;
         let (protection, sections) = check_conditions(record.n, conditions)?;
         let command = Command::read(record.n, command, channel)?;

@@ -31,15 +31,12 @@ pub enum Verdict {
     /// With the first step, from 0, such that the steps up to and with it have
     /// no explanation.
     Unexplained(usize),
-    /// With the paper's number for it.
-    Refused(u8),
 }
 
-pub fn judge(n: u8, mask: u16, wait: u16, capture: &[u8]) -> Verdict {
-    match admit(n, mask, wait, capture) {
-        Ok((start, rows)) => explain(start, rows, &causes(n)),
-        Err(number) => Verdict::Refused(number),
-    }
+/// The verdict on a capture, or the paper's number for its refusal.
+pub fn judge(n: u8, mask: u16, wait: u16, capture: &[u8]) -> Result<Verdict, u8> {
+    let (start, rows) = admit(n, mask, wait, capture)?;
+    Ok(explain(start, rows, &causes(n)))
 }
 
 /// The order of the checks is the paper's: 1, 2, 8, 9.

@@ -1,5 +1,5 @@
 //! A second reading of the scope paper (01), with what is in force of the change
-//! requests (02): c, d, j, and b, which changes nothing that is answered.
+//! requests (02): c, d, f, j, and b, which changes nothing that is answered.
 //!
 //! Everything here was written from the papers alone, and `door` and `library` from
 //! `include/chainplater.h` besides. None of it comes from the Rattle source, by
@@ -9,13 +9,13 @@
 //!
 //! Seven points were not reached so: what `pair::rank` answers for a channel that
 //! no group has, and `book::body` for an entry whose body is not all in the
-//! book; that the line of a refused capture keeps its number, sections and steps;
-//! that a request was last sent, in 02 d, if the step before sent it, and no
+//! book; that 31 and 32 come right behind 25, in 02, f, and so before 26 of their
+//! entry; that a request was last sent, in 02 d, if the step before sent it, and no
 //! earlier one; that conditions are refused, in 02, c, as they are handed in, with
 //! an alarm as without; the byte that tells of an alarm; and that, in 02, j, a 0
-//! stands for what a K1 value does not have. The fourth takes 02 at its word, and on
-//! the others the papers are silent. What is answered was settled for both programs,
-//! and their agreement on it is no evidence.
+//! stands for what a K1 value does not have. The third and the fourth take 02 at its
+//! word, and on the others the papers are silent. What is answered was settled for
+//! both programs, and their agreement on it is no evidence.
 //!
 //! Nor was the closed form of `judge::scan`, which requests can be sent in a step,
 //! with an alarm or without: it was handed over. What speaks for it is that it
@@ -54,6 +54,7 @@ mod library;
 mod library;
 mod pair;
 mod sequences;
+mod settings;
 mod trials;
 
 use library::Library;

@@ -4,5 +4,6 @@ pub mod Table
 pub mod First
 pub mod Bytes
 pub mod Fields
+pub mod Fitting
 pub mod One
 mod Theorems

@@ -1,18 +1,14 @@
 -- Tables. A test that is computed once over the whole of a list holds at each entry; and a table that computes to the
 -- values of a function has them at each entry.
 use mathlib.Core.Path.{_≡_, sym, ap, _∙_}
-use mathlib.Core.Bool.{Bool, true, _&&_, and-eq-true-iff}
+use mathlib.Core.Bool.{Bool, true, and-eq-true-iff}
 use mathlib.Core.List.{List, [], _∷_, _++_}
 use Prim.Native.Nat.{ℕ, zero, suc, _+_, _<_}
 use native.Mathlib.Nat.{add-zero, zero-add, add-suc, suc-add, le-of-suc-le-suc, not-suc-le-zero}
 use lib.ListN.{length, getD}
-use Rattle.basics.specs.Table.{valuesFrom, values}
+use Rattle.basics.specs.Table.{every, valuesFrom, values}
 
 module _ {A : Type 0} where
-  abbrev pub every : (A → Bool) → List A → Bool
-  every test [] = true
-  every test (x ∷ xs) = test x && every test xs
-
   pub at-entry : (test : A → Bool) (list : List A) (other : A) → every test list ≡ true
       → (k : ℕ) → k < length list → test (getD list k other) ≡ true
   at-entry test [] other whole k h = absurd (not-suc-le-zero h)

@@ -11,8 +11,10 @@ use Rattle.basics.specs.First.{CheckFor, Check, firstOr, appliesAt, answ
 use Rattle.basics.specs.Answer.{Answers}
 use Rattle.basics.specs.Bytes.{twoAt, fourAt, twoBytes, fourBytes}
 use Rattle.basics.specs.Fields.{Width, sizeOf, fieldsAt, fieldBytes}
-use Rattle.basics.specs.Table.{values}
-use Rattle.basics.proofs.Table.{every, at-entry, entry-is}
+use Rattle.basics.specs.Settings.{sectionsFit, maskFits, settingsChecks}
+use Rattle.basics.specs.Table.{every, values}
+use Rattle.basics.proofs.Fitting.{settings-fit, fit-settings}
+use Rattle.basics.proofs.Table.{at-entry, entry-is}
 use Rattle.basics.proofs.First.{first-given, first-shown, others, none-of, CountedFrom, first-exact, numbered, none-exact}
 use Rattle.basics.proofs.Bytes.{two-back, four-back}
 use Rattle.basics.proofs.Fields.{fields-back, fields-again}
@@ -33,6 +35,14 @@ use Rattle.basics.proofs.put_four.Kinds as put-four-kinds
 use Rattle.basics.proofs.put_four.Reads as put-four
 use Rattle.basics.proofs.put_four.Statement as put-four-statement
 use Rattle.basics.proofs.put_four.Met as put-four-met
+use Rattle.basics.proofs.settings.sections_fit.Kinds as sections-fit-kinds
+use Rattle.basics.proofs.settings.sections_fit.Reads as sections-fit
+use Rattle.basics.proofs.settings.sections_fit.Statement as sections-fit-statement
+use Rattle.basics.proofs.settings.sections_fit.Met as sections-fit-met
+use Rattle.basics.proofs.settings.settings_refusal.Kinds as settings-refusal-kinds
+use Rattle.basics.proofs.settings.settings_refusal.Reads as settings-refusal
+use Rattle.basics.proofs.settings.settings_refusal.Statement as settings-refusal-statement
+use Rattle.basics.proofs.settings.settings_refusal.Met as settings-refusal-met
 
 -- Each public function answers, and leaves in the memory that it was lent, what its definition says, for every input.
 -- (`statement` is the contract, as the checker reads it off the source; it asks nothing of the caller.)
@@ -47,6 +57,12 @@ put-two-right = put-two-met.met
 
 put-four-right : {M : Type 1} → put-four-statement.statement M
 put-four-right = put-four-met.met
+
+sections-fit-right : {M : Type 1} → sections-fit-statement.statement M
+sections-fit-right = sections-fit-met.met
+
+settings-refusal-right : {M : Type 1} → settings-refusal-statement.statement M
+settings-refusal-right = settings-refusal-met.met
 
 -- A number that was written where it has room is read back.
 two-right : (bytes : List ℕ) (at v : ℕ) → at + 1 < length bytes → twoAt (sets bytes at (twoBytes v)) at ≡ v
@@ -100,6 +116,16 @@ test-right = at-entry
 table-right : (f : ℕ → ℕ) (n k : ℕ) → k < n → getD (values f n) k 0 ≡ f k
 table-right = entry-is
 
+-- Settings are refused with nothing exactly if n and the mask fit, whatever the two numbers are that bad ones are refused
+-- with, if neither is 0.
+settings-right : (first second n mask : ℕ) → numbered (settingsChecks first second n mask) ≡ true
+    → firstOf (settingsChecks first second n mask) ≡ 0 → (sectionsFit n ≡ true) × (maskFits n mask ≡ true)
+settings-right = settings-fit
+
+settings-complete : (first second n mask : ℕ) → sectionsFit n ≡ true → maskFits n mask ≡ true
+    → firstOf (settingsChecks first second n mask) ≡ 0
+settings-complete = fit-settings
+
 -- Two answers that the promise of an enum allows are equal.
 answer-unique : {A B : Type 0} {told : A → B} {caseOf : B → A} {right : B} {x y : A}
     → Answers told caseOf right x → Answers told caseOf right y → x ≡ y
@@ -118,3 +144,9 @@ put-two-unique κs args x y s t p q = one-value p q
 
 put-four-unique : OneContent 1 put-four-kinds.ps put-four-kinds.r put-four.Post (λ κs exit. now (exit .0))
 put-four-unique κs args x y s t p q = one-value p q
+
+sections-fit-unique : OneAnswer 0 sections-fit-kinds.ps sections-fit-kinds.r sections-fit.Post
+sections-fit-unique κs args x y s t p q = one-value p q
+
+settings-refusal-unique : OneAnswer 0 settings-refusal-kinds.ps settings-refusal-kinds.r settings-refusal.Post
+settings-refusal-unique κs args x y s t p q = one-value p q

@@ -1,5 +1,7 @@
 // Numbers of two and of four bytes, big-endian, read from a slice and written to one. Every place is taken: a byte
-// past the end reads as 0, and is not written.
+// past the end reads as 0, and is not written. Whether settings fit is in `settings`.
+pub mod settings;
+
 ghost use mathlib.Core.Path.{_≡_};
 ghost use lib.ListN.{getD, set};
 ghost use lib.Seq.{sets};

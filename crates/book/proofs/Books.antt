@@ -1,8 +1,8 @@
 -- The bytes of a whole book: how many there are, and that the writer's parts put one behind the other are they.
 use mathlib.Core.Path.{_≡_, refl, ap, _∙_}
 use mathlib.Core.Bool.{Bool, true, false}
-use mathlib.Core.List.{List, [], _∷_, _++_}
-use Prim.Native.Nat.{ℕ, suc, _+_, _*_, _≤_}
+use mathlib.Core.List.{List, _∷_, _++_}
+use Prim.Native.Nat.{ℕ, _+_, _≤_}
 use native.Mathlib.Nat.{zero-add}
 use native.Mathlib.Omega.{arith}
 use lib.Dec.{eqb}
@@ -11,28 +11,14 @@ use lib.Seq.{sets, sets-eq, length-sets}
 use borrow.Author.Tests.{eqb-true, ne-eqb}
 use Rattle.basics.specs.Answer.{Answers}
 use Rattle.basics.proofs.Bytes.{sets-joined}
-use Rattle.book.specs.Format.{entryBytes, firstBody, bodyEnd, placed, contentsBytes, bookOf, most}
+use Rattle.book.specs.Format.{firstBody, placed, contentsBytes, bookOf, most}
 use Rattle.book.specs.Writer.{counted, size, writeRefusal, writingTold, writingCase, writing, output}
 use Rattle.book.specs.declared.Entry.{Entry}
 use Rattle.book.specs.declared.Contents.{Contents}
 use Rattle.book.specs.declared.Writing.the-variants as answer
 use Rattle.book.proofs.Refusals.{writable}
 use Rattle.book.proofs.Counted.{length-counted}
-use Rattle.book.proofs.Filling.{length-entry}
-
-pub length-placed : (at : ℕ) (entries : List Entry) → length (placed at entries) ≡ length entries
-unfolding placed
-length-placed at [] = refl
-length-placed at (e ∷ rest) = ap suc (length-placed (bodyEnd at e) rest)
-
-pub length-contents : (entries : List Entry) → length (contentsBytes entries) ≡ 12 * length entries
-unfolding contentsBytes
-length-contents [] = refl
-length-contents (e ∷ rest) =
-    length-append (entryBytes e) (contentsBytes rest) ∙ omega (arith, length-entry e, length-contents rest)
-
-length-first : (at : ℕ) (entries : List Entry) → length (contentsBytes (placed at entries)) ≡ 12 * length entries
-length-first at entries = length-contents (placed at entries) ∙ ap (λ (n : ℕ). 12 * n) (length-placed at entries)
+use Rattle.book.proofs.Laid.{length-first}
 
 pub length-book : (entries : List Entry) (bodies : List ℕ)
     → length (bookOf entries bodies) ≡ firstBody (length entries) + length bodies

@@ -3,12 +3,12 @@ use mathlib.Core.Path.{_≡_, refl, sym, ap, _∙_}
 use mathlib.Core.Bool.{Bool, true, false}
 use mathlib.Core.List.{List, [], _∷_, _++_}
 use Prim.Native.Nat.{ℕ, zero, suc, _+_, _*_, _-_, _≤_, _<_}
-use native.Mathlib.Nat.{le-of-suc-le-suc, not-suc-le-zero, suc-sub-suc, sub-zero, zero-sub, zero-add}
+use native.Mathlib.Nat.{le-of-suc-le-suc, not-suc-le-zero}
 use native.Mathlib.Numerals.{add-one}
 use native.Mathlib.Omega.{arith}
 use lib.Dec.{eqb}
-use lib.ListN.{length, getD, set, drop, replicate, length-replicate, drop-of-length-le}
-use lib.Seq.{sets, sets-eq, drop-cons, drop-drop}
+use lib.ListN.{length, getD, set, drop, replicate, drop-of-length-le}
+use lib.Seq.{sets, drop-cons, drop-drop}
 use borrow.Author.Tests.{lt-ltb, le-ltb, ne-eqb, eqb-true, eqb-false}
 use Rattle.basics.specs.First.{firstOf}
 use Rattle.basics.proofs.First.{first-behind, first-before, none-both}
@@ -17,6 +17,7 @@ use Rattle.book.specs.Reader.{headFaults, entryFaults, bodyFaults, refus
 use Rattle.book.specs.Reader.{refusedReading, reading}
 use Rattle.book.specs.declared.Entry.{Entry}
 use Rattle.book.specs.declared.Reading.{Reading}
+use Rattle.book.proofs.Laid.{sets-same}
 use Rattle.book.proofs.Refusals.{Headed, headed, sound}
 
 pub length-entries : (k : ℕ) (bytes : List ℕ) → length (entriesIn k bytes) ≡ k
@@ -52,18 +53,6 @@ rest-entries : (book : List ℕ) (i : ℕ) → i < countIn book
     → drop i (entriesOf book) ≡ entryOf book i ∷ drop (i + 1) (entriesOf book)
 rest-entries book i h = entries-next (countIn book) 2 i book h
 
--- entries that are set in 64 places of zeros, one after the other
-drop-zeros : (n m : ℕ) → drop n (replicate m noEntry) ≡ replicate (m - n) noEntry
-drop-zeros zero m = ap (λ (k : ℕ). replicate k noEntry) (sym (sub-zero m))
-drop-zeros (suc n) zero = ap (λ (k : ℕ). replicate k noEntry) (sym (zero-sub (suc n)))
-drop-zeros (suc n) (suc m) = drop-zeros n m ∙ ap (λ (k : ℕ). replicate k noEntry) (sym (suc-sub-suc m n))
-
-set-places : (entries : List Entry) → length entries ≤ 64 → sets (replicate 64 noEntry) 0 entries ≡ places entries
-set-places entries h =
-    sets-eq entries (replicate 64 noEntry) 0 (omega (arith, length-replicate 64 noEntry))
-    ∙ ap (λ (l : List Entry). entries ++ l)
-    (drop-zeros (0 + length entries) 64 ∙ ap (λ (k : ℕ). replicate (64 - k) noEntry) (zero-add (length entries)))
-
 -- Entries before i, of k that stand behind the first bytes, are read and kept.
 pub record Taking (k at : ℕ) (bytes : List ℕ) (entries : List Entry) (i : ℕ) : Type 0 where
   pub few : k ≤ 64
@@ -96,7 +85,7 @@ module _ {k at : ℕ} {bytes : List ℕ} {entries : List Entry} {i : ℕ} (takin
       drop-of-length-le (entriesIn k (drop at bytes)) {i = i} (omega arith) in
       ap (sets entries i) (sym none)
       ∙ taking .taken
-      ∙ set-places (entriesIn k (drop at bytes)) (omega (arith, taking .few))
+      ∙ sets-same noEntry (entriesIn k (drop at bytes)) 64 (omega (arith, taking .few))
 
 -- How far the walk has come: entries before i are without fault, the body of the next one belongs at `at`. What is left
 -- of the checks decides the refusal.

@@ -1,10 +1,10 @@
 -- Theorems is the front door; the rest are the laws behind it, some of them for the door for C and Rust too.
 mod Refusals
+pub mod Laid
 mod Entries
 mod Counted
 mod Filling
 pub mod Books
-pub mod Lists
 mod Ordered
 pub mod Trips
 mod Theorems

@@ -1,6 +1,6 @@
 -- Bodies in order without gaps: what the reader's checks come to, and what the joined bodies are.
 use mathlib.Core.Path.{_≡_, refl, sym, ap, _∙_}
-use mathlib.Core.Bool.{true, true≢false}
+use mathlib.Core.Bool.{Bool, true, _&&_, true≢false}
 use mathlib.Core.List.{List, [], _∷_, _++_}
 use mathlib.Core.Logic.{_↔_, _⊎_, inl, inr}
 use Prim.Native.Nat.{ℕ, zero, suc, _+_, _*_, _≤_}
@@ -11,13 +11,13 @@ use lib.Seq.{drop-drop, length-take-le}
 use borrow.Author.Tests.{ltb-false, le-ltb, eq-eqb}
 use Rattle.basics.specs.First.{Check, firstOf, numberOf, FirstAt}
 use Rattle.basics.proofs.First.{numbered, none-exact, none-both, first-applies}
-use Rattle.basics.proofs.Table.{every}
-use Rattle.book.specs.Format.{countIn, entriesOf, firstBody, bodyEnd, InOrder, most, IsBook, bodyOf}
+use Rattle.basics.specs.Table.{every}
+use Rattle.book.specs.Format.{countIn, entriesOf, firstBody, bodyEnd, settingsFit, InOrder, most, IsBook, bodyOf}
 use Rattle.book.specs.Format.{joined, placedAt, placed}
 use Rattle.book.specs.Reader.{headFaults, entryFaults, bodyFaults, readFaults, refusal}
 use Rattle.book.specs.Writer.{stepsOf}
 use Rattle.book.specs.declared.Entry.{Entry}
-use Rattle.book.proofs.Refusals.{headed, sound}
+use Rattle.book.proofs.Refusals.{headed, fit-both, fit-every, sound}
 
 -- in order from a place on: the steps tell how far, so that no body passes the end
 pub order-ends : (size at : ℕ) (entries : List Entry) → InOrder size at entries → at + 4 * stepsOf entries ≡ size
@@ -25,24 +25,35 @@ unfolding InOrder stepsOf
 order-ends size at [] o = omega (arith, o)
 order-ends size at (e ∷ rest) o = omega (arith, order-ends size (bodyEnd at e) rest (o .2))
 
--- the checks of a list of entries, each behind the last: none applies exactly where the bodies are in order
-pub order-none : (size at : ℕ) (entries : List Entry) → InOrder size at entries → firstOf (bodyFaults size at entries) ≡ 0
+-- the checks of a list of entries, each behind the last: none applies exactly where the settings fit and the bodies are in
+-- order
+pub order-none : (size at : ℕ) (entries : List Entry) → every settingsFit entries ≡ true → InOrder size at entries
+    → firstOf (bodyFaults size at entries) ≡ 0
 unfolding InOrder bodyFaults
-order-none size at [] o = rw (le-ltb at size (omega (arith, o)))
-order-none size at (e ∷ rest) o =
+order-none size at [] all o = rw (le-ltb at size (omega (arith, o)))
+order-none size at (e ∷ rest) all o =
     let ends = order-ends size (bodyEnd at e) rest (o .2) in
-    rw (eq-eqb (e .spare) 0 (o .0), eq-eqb (e .offset) at (o .1), le-ltb size (bodyEnd at e) (omega arith))
-    (order-none size (bodyEnd at e) rest (o .2))
+    let fits = fit-every e rest all in
+    let both = fit-both e (fits .0) in
+    rw (
+      eq-eqb (e .spare) 0 (o .0),
+      both .0,
+      both .1,
+      eq-eqb (e .offset) at (o .1),
+      le-ltb size (bodyEnd at e) (omega arith),
+    )
+    (order-none size (bodyEnd at e) rest (fits .1) (o .2))
 
 pub none-order : (size at : ℕ) (entries : List Entry) → at ≤ size → firstOf (bodyFaults size at entries) ≡ 0
-    → InOrder size at entries
+    → (every settingsFit entries ≡ true) × InOrder size at entries
 unfolding InOrder bodyFaults
 none-order size at [] h e =
-    let reached = ltb-false at size (none-exact (bodyFaults size at []) refl .0 e 0) in omega arith
+    let reached = ltb-false at size (none-exact (bodyFaults size at []) refl .0 e 0) in (refl, omega arith)
 none-order size at (entry ∷ rest) h e =
     let both = none-both (entryFaults size at entry) (bodyFaults size (bodyEnd at entry) rest) refl e in
     let s = sound size at entry (both .0) in
-    (s .spared, s .there, none-order size (bodyEnd at entry) rest (s .inside) (both .1))
+    let later = none-order size (bodyEnd at entry) rest (s .inside) (both .1) in
+    (rw (s .fits) (later .0), (s .spared, s .there, later .1))
 
 -- the bodies of a book that are in order, joined, are all that stands from the first one on
 pub joined-rest : (book : List ℕ) (at : ℕ) (entries : List Entry) → InOrder (length book) at entries
@@ -83,6 +94,12 @@ unfolding InOrder placed stepsOf
 order-placed size at [] h = omega (arith, h)
 order-placed size at (e ∷ rest) h = (refl, refl, order-placed size (bodyEnd at e) rest (omega (arith, h)))
 
+-- and no settings are others
+pub fit-placed : (at : ℕ) (entries : List Entry) → every settingsFit (placed at entries) ≡ every settingsFit entries
+unfolding placed
+fit-placed at [] = refl
+fit-placed at (e ∷ rest) = ap (λ (t : Bool). settingsFit e && t) (fit-placed (bodyEnd at e) rest)
+
 -- a book is refused with nothing exactly if it is one
 pub book-exact : (book : List ℕ) → (refusal book ≡ 0) ↔ IsBook book
 unfolding refusal
@@ -95,12 +112,8 @@ book-exact book = (forward, backward)
     forward e =
         let both = none-both (headFaults book) checks refl e in
         let h = headed book (both .0) in
-        record {
-          small = h .small;
-          one = h .one;
-          few = h .few;
-          order = none-order (length book) (firstBody (countIn book)) (entriesOf book) (h .uncut) (both .1);
-        }
+        let entries = none-order (length book) (firstBody (countIn book)) (entriesOf book) (h .uncut) (both .1) in
+        record { small = h .small; one = h .one; few = h .few; settings = entries .0; order = entries .1 }
 
     backward : IsBook book → firstOf (headFaults book ++ checks) ≡ 0
     backward b =
@@ -112,7 +125,7 @@ book-exact book = (forward, backward)
           le-ltb 64 (countIn book) (b .few),
           le-ltb (length book) (firstBody (countIn book)) (omega arith),
         )
-        (order-none (length book) (firstBody (countIn book)) (entriesOf book) (b .order))
+        (order-none (length book) (firstBody (countIn book)) (entriesOf book) (b .settings) (b .order))
 
 bodies-numbered : (size at : ℕ) (entries : List Entry) → numbered (bodyFaults size at entries) ≡ true
 unfolding bodyFaults

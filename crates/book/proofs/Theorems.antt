@@ -1,36 +1,35 @@
 -- The front door: what is proved of capture books, each theorem in full with the line that cites its proof.
 use mathlib.Core.Path.{_≡_, refl, sym}
 use mathlib.Core.Bool.{true}
-use mathlib.Core.List.{List, _++_}
+use mathlib.Core.List.{List, _∷_, _++_}
 use mathlib.Core.Logic.{_↔_, _⊎_}
-use Prim.Native.Nat.{ℕ, _+_, _*_, _≤_, _<_}
+use Prim.Native.Nat.{ℕ, _+_, _*_, _-_, _≤_, _<_}
 use native.Mathlib.Omega.{arith}
 use lib.Dec.{eqb}
-use lib.ListN.{length, getD, take, drop}
+use lib.ListN.{length, getD, set, take, drop, replicate}
+use lib.Seq.{sets}
 use denote.Ref.{now}
+use Rattle.basics.specs.Bytes.{fourBytes}
 use Rattle.basics.specs.Fields.{sizeOf}
 use Rattle.basics.specs.First.{FirstAt, numberOf}
 use Rattle.basics.proofs.First.{first-applies}
 use Rattle.basics.proofs.One.{OneAnswer, OneContent, OnePart, one-value, one-case}
-use Rattle.basics.proofs.Table.{every}
-use Rattle.book.specs.Format.{countIn, layout, entriesOf, contentsIn, bytesOf, firstBody, IsBook, bodyOf, joined}
-use Rattle.book.specs.Format.{entryFits, places, placed, bookOf}
+use Rattle.basics.specs.Table.{every}
+use Rattle.book.specs.Format.{countIn, layout, entryIn, entryBytes, entriesOf, contentsIn, bytesOf, firstBody}
+use Rattle.book.specs.Format.{settingsFit, IsBook, bodyOf, joined, entryFits, places, placedAt, placed, bookOf}
 use Rattle.book.specs.Reader.{readFaults, refusal, reading}
 use Rattle.book.specs.Writer.{counted, stepsOf, size, writeFaults, writeRefusal, writing, output}
 use Rattle.book.specs.declared.Contents.{Contents}
 use Rattle.book.proofs.Books.{refused-writing}
-use Rattle.book.proofs.Lists.{length-listed}
 use Rattle.book.proofs.Ordered.{order-ends, joined-rest, whole-bodies, book-exact, refused-or-book}
 use Rattle.book.proofs.Ordered.{refused-no-book}
-use Rattle.book.proofs.Trips.{contents-back, contents-again, read-again, written-again, book-format}
-use Rattle.book.proofs.contents_in.Kinds as contents-in-kinds
-use Rattle.book.proofs.contents_in.Reads as contents-in-fn
-use Rattle.book.proofs.contents_in.Statement as contents-in-statement
-use Rattle.book.proofs.contents_in.Met as contents-in-met
-use Rattle.book.proofs.put_contents.Kinds as put-contents-kinds
-use Rattle.book.proofs.put_contents.Reads as put-contents-fn
-use Rattle.book.proofs.put_contents.Statement as put-contents-statement
-use Rattle.book.proofs.put_contents.Met as put-contents-met
+use Rattle.book.proofs.Laid.{length-listed, entry-placed}
+use Rattle.book.proofs.Trips.{contents-back, contents-again, read-fit, listed-book, read-again, written-again}
+use Rattle.book.proofs.Trips.{book-format}
+use Rattle.book.proofs.read_into.Kinds as read-into-kinds
+use Rattle.book.proofs.read_into.Reads as read-into-fn
+use Rattle.book.proofs.read_into.Statement as read-into-statement
+use Rattle.book.proofs.read_into.Met as read-into-met
 use Rattle.book.proofs.read.Kinds as read-kinds
 use Rattle.book.proofs.read.Reads as read-fn
 use Rattle.book.proofs.read.Statement as read-statement
@@ -44,8 +43,8 @@ use Rattle.book.proofs.write.Reads as write-fn
 use Rattle.book.proofs.write.Statement as write-statement
 use Rattle.book.proofs.write.Met as write-met
 
--- Reading, the body of a capture, writing, and contents in bytes by themselves answer what their definitions say, for every
--- input. (`statement` is the contract, as the checker reads it off the source; it asks nothing of the caller.)
+-- Reading, the body of a capture and writing, also of contents in bytes by themselves, answer what their definitions say, for
+-- every input. (`statement` is the contract, as the checker reads it off the source; it asks nothing of the caller.)
 read-right : {M : Type 1} → read-statement.statement M
 read-right = read-met.met
 
@@ -55,11 +54,8 @@ body-right = body-met.met
 write-right : {M : Type 1} → write-statement.statement M
 write-right = write-met.met
 
-contents-in-right : {M : Type 1} → contents-in-statement.statement M
-contents-in-right = contents-in-met.met
-
-put-contents-right : {M : Type 1} → put-contents-statement.statement M
-put-contents-right = put-contents-met.met
+read-into-right : {M : Type 1} → read-into-statement.statement M
+read-into-right = read-into-met.met
 
 -- Two answers that the promise of a public function allows are equal, and so are two contents of the output. (`Post` is
 -- the function's `ensures`. A body is a part of the book's own slice; what is decided of it is its bytes.)
@@ -69,21 +65,21 @@ read-unique κs args x y s t p q = one-value p q
 body-unique : OnePart 1 body-kinds.ps body-kinds.r body-fn.Post (λ κs part. now part)
 body-unique κs args x y s t p q = one-value p q
 
-write-unique : OneAnswer 2 write-kinds.ps write-kinds.r write-fn.Post
+write-unique : OneAnswer 3 write-kinds.ps write-kinds.r write-fn.Post
 write-unique κs args x y s t p q = one-case (p .0) (q .0)
 
-output-unique : OneContent 2 write-kinds.ps write-kinds.r write-fn.Post (λ κs exit. now (exit .1 .1 .0))
+output-unique : OneContent 3 write-kinds.ps write-kinds.r write-fn.Post (λ κs exit. now (exit .1 .1 .0))
 output-unique κs args x y s t p q = one-value (p .1) (q .1)
 
-contents-in-unique : OneAnswer 1 contents-in-kinds.ps contents-in-kinds.r contents-in-fn.Post
-contents-in-unique κs args x y s t p q = one-value p q
+read-into-unique : OneAnswer 2 read-into-kinds.ps read-into-kinds.r read-into-fn.Post
+read-into-unique κs args x y s t p q = one-value (p .0) (q .0)
 
-put-contents-unique :
-    OneContent 1 put-contents-kinds.ps put-contents-kinds.r put-contents-fn.Post (λ κs exit. now (exit .0))
-put-contents-unique κs args x y s t p q = one-value p q
+listed-unique : OneContent 2 read-into-kinds.ps read-into-kinds.r read-into-fn.Post (λ κs exit. now (exit .1 .0))
+listed-unique κs args x y s t p q = one-value (p .1) (q .1)
 
 -- Exactly one of two: some check applies, and the first of them in the paper's order gives the refusal; or the bytes are
--- a book: each body starts where the one before it ends, the first at 2 + 12k, and the last ends with the book.
+-- a book: the settings of each entry fit, each body starts where the one before it ends, the first at 2 + 12k, and the last
+-- ends with the book.
 one-of-two : (book : List ℕ)
     → ((i : ℕ) × FirstAt (readFaults book) i × (refusal book ≡ numberOf (readFaults book) i)) ⊎ IsBook book
 one-of-two = refused-or-book
@@ -93,6 +89,11 @@ not-both = refused-no-book
 
 refusal-exact : (book : List ℕ) → (refusal book ≡ 0) ↔ IsBook book
 refusal-exact = book-exact
+
+-- Every entry of a book that was read has settings from which a fresh record is made: n is 1 to 14, and the mask has no bit
+-- at n or above. (The record itself is the controller's; `chainplater` states that it is made, `captures-fresh`.)
+settings-right : (book : List ℕ) → reading book .refusal ≡ 0 → every settingsFit (counted (reading book .contents)) ≡ true
+settings-right = read-fit
 
 -- The first check that applies gives a write's refusal; then no bytes are written and the output is as it was.
 write-first : (contents : Contents) (bodies room : ℕ) → (writeRefusal contents bodies room ≡ 0 → ⊥)
@@ -160,6 +161,17 @@ write-read : (contents : Contents) (bodies out : List ℕ) → writeRefusal cont
     × (joined book entries ≡ bodies)
     × (every (λ e. eqb (length (bodyOf book e)) (4 * e .steps)) entries ≡ true)
 write-read = written-again
+
+-- In bytes by themselves, the contents of a book that was read are the book's own bytes behind the count, with zeros behind
+-- them; and an entry as it is written is the caller's 12 bytes with spare 0 and the offset put in.
+listed-right : (book : List ℕ) → ((i : ℕ) → getD book i 0 < 256) → IsBook book
+    → bytesOf (reading book .contents)
+    ≡ (countIn book ∷ take (12 * countIn book) (drop 2 book)) ++ replicate (12 * (64 - countIn book)) 0
+listed-right = listed-book
+
+placed-right : (bytes : List ℕ) → ((i : ℕ) → getD bytes i 0 < 256) → length bytes ≡ 12 → (at : ℕ)
+    → entryBytes (placedAt at (entryIn bytes)) ≡ sets (set bytes 1 0) 6 (fourBytes at)
+placed-right = entry-placed
 
 -- Contents in bytes by themselves are 769. What was written there is read back, and what was read there is written again
 -- byte for byte.

@@ -1,73 +1,38 @@
 -- Round trips: what is read and written again, and what is written and read again.
 use mathlib.Core.Path.{_≡_, refl, sym, ap, subst, _∙_}
 use mathlib.Core.Bool.{Bool, true, false}
-use mathlib.Core.List.{List, [], _∷_, _++_, append-assoc, append-nil}
+use mathlib.Core.List.{List, [], _∷_, _++_, append-nil}
 use mathlib.Core.Logic.{_↔_}
 use Prim.Native.Nat.{ℕ, zero, suc, _+_, _*_, _-_, _≤_, _<_}
 use native.Mathlib.Omega.{arith}
 use lib.Dec.{eqb}
 use lib.ListN.{length, getD, take, drop, replicate, length-append, length-drop, length-replicate, take-append-drop}
-use lib.Seq.{drop-at, drop-cons, drop-drop, take-at, take-add, take-all, getD-drop}
+use lib.Seq.{sets, drop-at, drop-cons, drop-drop, take-at, take-all}
 use borrow.Author.Tests.{eqb-true}
-use Rattle.basics.proofs.Fields.{fields-back, fields-again, fields-fit}
-use Rattle.basics.proofs.Table.{every, every-joined}
-use Rattle.book.specs.Format.{countIn, layout, fields, named, entryFits, entryIn, entryBytes, entriesIn, entriesOf}
+use Rattle.basics.proofs.Fields.{fields-fit}
+use Rattle.basics.specs.Table.{every}
+use Rattle.basics.proofs.Table.{every-joined}
+use Rattle.book.specs.Format.{countIn, layout, entryFits, entryIn, entriesIn, entriesOf, settingsFit}
 use Rattle.book.specs.Format.{contentsBytes, contentsIn, bytesOf, firstBody, InOrder, most, IsBook, bodyOf, joined, noEntry, places, placed, bookOf}
 use Rattle.book.specs.Reader.{refusal, reading}
 use Rattle.book.specs.Writer.{firstPlaces, counted, stepsOf, size, writeRefusal, writing, output}
 use Rattle.book.specs.declared.Entry.{Entry}
 use Rattle.book.specs.declared.Contents.{Contents}
 use Rattle.book.proofs.Refusals.{writable, not-refused}
-use Rattle.book.proofs.Entries.{length-entries, accepted, counting}
+use Rattle.book.proofs.Entries.{length-entries, accepted, not-accepted, counting}
 use Rattle.book.proofs.Counted.{length-counted}
-use Rattle.book.proofs.Filling.{length-entry}
-use Rattle.book.proofs.Books.{length-placed, length-contents, length-book}
-use Rattle.book.proofs.Ordered.{order-ends, joined-rest, whole-bodies, placed-order, order-placed, book-exact}
-
--- an entry that was written is read back, and so are all of them
-entry-back : (e : Entry) (after : List ℕ) → entryIn (entryBytes e ++ after) ≡ e
-unfolding entryIn entryBytes
-entry-back e after = ap named (fields-back layout (fields e) [] after refl)
-
-entries-back : (entries : List Entry) (after : List ℕ)
-    → entriesIn (length entries) (contentsBytes entries ++ after) ≡ entries
-unfolding entriesIn contentsBytes
-entries-back [] after = refl
-entries-back (e ∷ rest) after =
-    let behind = contentsBytes rest ++ after in
-    rw (
-      append-assoc (entryBytes e) (contentsBytes rest) after,
-      entry-back e behind,
-      drop-at (entryBytes e) behind 12 (length-entry e),
-      entries-back rest after,
-    )
-
--- an entry that was read is written again as it stood, and so are all of them
-module _ (bytes : List ℕ) (small : (i : ℕ) → getD bytes i 0 < 256) where
-  entry-again : 12 ≤ length bytes → entryBytes (entryIn bytes) ≡ take 12 bytes
-  unfolding entryIn entryBytes
-  entry-again h = fields-again bytes small layout 0 (omega arith)
-
-entries-again : (k : ℕ) (bytes : List ℕ) → ((i : ℕ) → getD bytes i 0 < 256) → 12 * k ≤ length bytes
-    → contentsBytes (entriesIn k bytes) ≡ take (12 * k) bytes
-unfolding entriesIn contentsBytes
-entries-again zero bytes small h = refl
-entries-again (suc k) bytes small h =
-    let whole : 12 * suc k ≡ 12 + 12 * k = omega arith in
-    let small′ : (i : ℕ) → getD (drop 12 bytes) i 0 < 256 = λ i. rw (getD-drop 12 bytes i 0) (small (12 + i)) in
-    rw (
-      entry-again bytes small (omega arith),
-      entries-again k (drop 12 bytes) small′ (simp length-drop (omega arith)),
-      whole,
-    )
-    (sym (take-add 12 (12 * k) bytes))
+use Rattle.book.proofs.Laid.{length-placed, length-contents, entries-back, small-rest, entries-again}
+use Rattle.book.proofs.Laid.{contents-joined, contents-zeros, sets-same}
+use Rattle.book.proofs.Books.{length-book}
+use Rattle.book.proofs.Ordered.{order-ends, joined-rest, whole-bodies, placed-order, order-placed, fit-placed}
+use Rattle.book.proofs.Ordered.{book-exact}
 
 -- the fields of entries that were read fit into their bytes, and so do zeros
 entries-fit : (k : ℕ) (bytes : List ℕ) → ((i : ℕ) → getD bytes i 0 < 256) → every entryFits (entriesIn k bytes) ≡ true
 unfolding entriesIn entryIn
 entries-fit zero bytes small = refl
 entries-fit (suc k) bytes small =
-    rw (fields-fit bytes small layout 0) (entries-fit k (drop 12 bytes) (λ i. rw (getD-drop 12 bytes i 0) (small (12 + i))))
+    rw (fields-fit bytes small layout 0) (entries-fit k (drop 12 bytes) (small-rest 12 bytes small))
 
 zeros-fit : (m : ℕ) → every entryFits (replicate m noEntry) ≡ true
 zeros-fit zero = refl
@@ -87,10 +52,9 @@ pub contents-again : (bytes : List ℕ) → length bytes ≡ 769 → ((i : ℕ) 
     → bytesOf (contentsIn bytes) ≡ bytes
 unfolding contentsIn bytesOf
 contents-again bytes long small =
-    let small′ : (i : ℕ) → getD (drop 1 bytes) i 0 < 256 = λ i. rw (getD-drop 1 bytes i 0) (small (1 + i)) in
     let rest = length-drop 1 bytes in
     ap (λ (l : List ℕ). getD bytes 0 0 ∷ l)
-    (entries-again 64 (drop 1 bytes) small′ (omega arith) ∙ take-all (12 * 64) (drop 1 bytes) (omega arith))
+    (entries-again 64 (drop 1 bytes) (small-rest 1 bytes small) (omega arith) ∙ take-all (12 * 64) (drop 1 bytes) (omega arith))
     ∙ sym (drop-cons bytes 0 0 (omega arith))
 
 -- the entries in the first places are those that count
@@ -106,7 +70,7 @@ places-first entries = first-of entries (replicate (64 - length entries) noEntry
 abbrev pub readContents : List ℕ → Contents
 readContents book = record { count = countIn book; entries = places (entriesOf book) }
 
-read-refusal : (book : List ℕ) → reading book .refusal ≡ refusal book
+pub read-refusal : (book : List ℕ) → reading book .refusal ≡ refusal book
 unfolding reading
 read-refusal book = go (eqb (refusal book) 0) refl
   where
@@ -149,12 +113,11 @@ module _ (book : List ℕ) (e : refusal book ≡ 0) where
         let b = is-book in
         let k = countIn book in
         let ends = order-ends (length book) (firstBody k) (entriesOf book) (b .order) in
-        let small′ : (i : ℕ) → getD (drop 2 book) i 0 < 256 = λ i. rw (getD-drop 2 book i 0) (small (2 + i)) in
         rw (
           count-entries,
           placed-order (length book) (firstBody k) (entriesOf book) (b .order),
           read-joined,
-          entries-again k (drop 2 book) small′ (simp length-drop (omega arith)),
+          entries-again k (drop 2 book) (small-rest 2 book small) (simp length-drop (omega arith)),
           ← drop-drop (12 * k) 2 book,
           take-append-drop (12 * k) (drop 2 book),
         )
@@ -179,6 +142,7 @@ module _ (book : List ℕ) (e : refusal book ≡ 0) where
           not-refused (readContents book) (length (joined book (entriesOf book))) (length out)
           (record {
             few = b .few;
+            settings = ap (every settingsFit) read-counted ∙ b .settings;
             whole = bodies-size ∙ ap (λ (es : List Entry). 4 * stepsOf es) (sym read-counted);
             small = omega (arith, whole-size, b .small);
             roomy = omega (arith, whole-size);
@@ -195,6 +159,58 @@ module _ (book : List ℕ) (e : refusal book ≡ 0) where
       unfolding output
       again-output = rw (again-none, whole-size, read-counted, book-again)
 
+zeros-behind : (k : ℕ) (entries : List ℕ) (room : ℕ) → k ≤ 64 → length entries ≡ 12 * k → room ≡ 769
+    → sets (replicate room 0) 0 (k ∷ entries) ≡ (k ∷ entries) ++ replicate (12 * (64 - k)) 0
+zeros-behind k entries room few long all =
+    let left : room - length (k ∷ entries) ≡ 12 * (64 - k) = omega arith in
+    rw (← left) (sets-same 0 (k ∷ entries) room (omega arith))
+
+-- what is read, in bytes: the book's own behind the count, and zeros behind those
+module _ (book : List ℕ) (e : refusal book ≡ 0) (small : (i : ℕ) → getD book i 0 < 256) where
+  abbrev raw : List ℕ
+  raw = take (12 * countIn book) (drop 2 book)
+
+  raw-entries : raw ≡ contentsBytes (entriesOf book)
+  raw-entries =
+      let b = is-book book e in
+      let ends = order-ends (length book) (firstBody (countIn book)) (entriesOf book) (b .order) in
+      sym
+      (entries-again (countIn book) (drop 2 book) (small-rest 2 book small) (simp length-drop (omega arith)))
+
+  raw-read : bytesOf (reading book .contents) ≡ (countIn book ∷ raw) ++ replicate (12 * (64 - countIn book)) 0
+  unfolding bytesOf
+  raw-read =
+      let m = 64 - length (entriesOf book) in
+      let left : 12 * m ≡ 12 * (64 - countIn book) = ap (λ (k : ℕ). 12 * (64 - k)) (count-entries book e) in
+      rw (accepted book e)
+      (ap (λ (l : List ℕ). countIn book ∷ l)
+      (contents-joined (entriesOf book) (replicate m noEntry)
+      ∙ ap (λ (l : List ℕ). l ++ contentsBytes (replicate m noEntry)) (sym raw-entries)
+      ∙ ap (λ (l : List ℕ). raw ++ l) (contents-zeros m ∙ ap (λ (n : ℕ). replicate n 0) left)))
+
+  -- (`room` is 769; as a number it would be written out)
+  pub listed-bytes : (room end : ℕ) → room ≡ 769 → end ≡ firstBody (countIn book)
+      → sets (replicate room 0) 0 (countIn book ∷ take (end - 2) (drop 2 book)) ≡ bytesOf (reading book .contents)
+  listed-bytes room end all ends =
+      let number : end - 2 ≡ 12 * countIn book = omega arith in
+      let long : length raw ≡ 12 * countIn book =
+      ap length raw-entries ∙ length-contents (entriesOf book) ∙ ap (λ (n : ℕ). 12 * n) (count-entries book e) in
+      ap (λ (n : ℕ). sets (replicate room 0) 0 (countIn book ∷ take n (drop 2 book))) number
+      ∙ (zeros-behind (countIn book) raw room (is-book book e .few) long all ∙ sym raw-read)
+
+pub listed-book : (book : List ℕ) → ((i : ℕ) → getD book i 0 < 256) → IsBook book
+    → bytesOf (reading book .contents)
+    ≡ (countIn book ∷ take (12 * countIn book) (drop 2 book)) ++ replicate (12 * (64 - countIn book)) 0
+listed-book book small b = raw-read book (book-exact book .1 b) small
+
+pub listed-zeros : (book : List ℕ) → (refusal book ≡ 0 → ⊥)
+    → (room : ℕ) → room ≡ 769 → replicate room 0 ≡ bytesOf (reading book .contents)
+unfolding bytesOf
+listed-zeros book some room all =
+    let whole : room ≡ suc (12 * 64) = omega arith in
+    rw (not-accepted book some)
+    (ap (λ (n : ℕ). replicate n 0) whole ∙ ap (λ (l : List ℕ). 0 ∷ l) (sym (contents-zeros 64)))
+
 -- read or refused, there are 64 places
 pub read-places : (book : List ℕ) → length (reading book .contents .entries) ≡ 64
 unfolding reading
@@ -209,6 +225,34 @@ read-places book = go (eqb (refusal book) 0) refl
 -- and no more than these count
 pub read-few : (book : List ℕ) → reading book .contents .count ≤ 64
 read-few book = counting book (reading book .contents .count) refl .few
+
+-- the settings of what is read fit
+pub read-fit : (book : List ℕ) → reading book .refusal ≡ 0 → every settingsFit (counted (reading book .contents)) ≡ true
+read-fit book none =
+    let e = sym (read-refusal book) ∙ none in
+    rw (accepted book e) (ap (every settingsFit) (read-counted book e) ∙ is-book book e .settings)
+
+-- their bodies are whole, and none has more bytes than a book
+pub read-whole : (book : List ℕ) → reading book .refusal ≡ 0
+    → (every (λ e. eqb (length (bodyOf book e)) (4 * e .steps)) (counted (reading book .contents)) ≡ true)
+    × ((e : Entry) → length (bodyOf book e) ≤ most)
+read-whole book none =
+    let z = sym (read-refusal book) ∙ none in
+    let b = is-book book z in (
+      rw (accepted book z, read-counted book z)
+          (whole-bodies book (firstBody (countIn book)) (entriesOf book) (b .order)),
+      λ e.
+          let rest = drop (e .offset) book in
+          let body = take (4 * e .steps) rest in
+          let behind = drop (4 * e .steps) rest in
+          omega (
+            arith,
+            length-append body behind,
+            ap length (take-append-drop (4 * e .steps) rest),
+            length-drop (e .offset) book,
+            b .small,
+          ),
+    )
 
 pub read-again : (book out : List ℕ) → ((i : ℕ) → getD book i 0 < 256) → reading book .refusal ≡ 0
     → length book ≤ length out →
@@ -238,8 +282,8 @@ module _ (entries : List Entry) (bodies : List ℕ) where
       omega (arith, length-contents ps, length-placed (firstBody (length entries)) entries) in
       drop-at (1 ∷ length entries ∷ contentsBytes ps) bodies (firstBody (length entries)) long
 
-  module _ (few : length entries ≤ 64) (whole : length bodies ≡ 4 * stepsOf entries)
-      (fits : firstBody (length entries) + length bodies ≤ most) where
+  module _ (few : length entries ≤ 64) (all : every settingsFit entries ≡ true)
+      (whole : length bodies ≡ 4 * stepsOf entries) (fits : firstBody (length entries) + length bodies ≤ most) where
     made-order : InOrder (length (bookOf entries bodies)) (firstBody (length entries)) (entriesOf (bookOf entries bodies))
     made-order =
         rw made-entries
@@ -249,7 +293,13 @@ module _ (entries : List Entry) (bodies : List ℕ) where
     made-book : IsBook (bookOf entries bodies)
     unfolding bookOf
     made-book =
-        record { small = omega (arith, length-book entries bodies); one = refl; few = few; order = made-order }
+        record {
+          small = omega (arith, length-book entries bodies);
+          one = refl;
+          few = few;
+          settings = ap (every settingsFit) made-entries ∙ fit-placed (firstBody (length entries)) entries ∙ all;
+          order = made-order;
+        }
 
     made-joined : joined (bookOf entries bodies) (entriesOf (bookOf entries bodies)) ≡ bodies
     made-joined =
@@ -275,7 +325,8 @@ module _ (contents : Contents) (bodies out : List ℕ) (e : writeRefusal content
   pub written-is : IsBook (bookOf (counted contents) bodies)
   written-is =
       let w = writable contents (length bodies) (length out) e in
-      made-book (counted contents) bodies (omega (arith, count-counted)) (w .whole) (omega (arith, count-counted))
+      made-book (counted contents) bodies (omega (arith, count-counted)) (w .settings) (w .whole)
+      (omega (arith, count-counted))
 
   written-entries :
       entriesOf (bookOf (counted contents) bodies) ≡ placed (firstBody (contents .count)) (counted contents)
@@ -300,7 +351,8 @@ module _ (contents : Contents) (bodies out : List ℕ) (e : writeRefusal content
   written-joined =
       let w = writable contents (length bodies) (length out) e in
       rw (← written-entries)
-      (made-joined (counted contents) bodies (omega (arith, count-counted)) (w .whole) (omega (arith, count-counted)))
+      (made-joined (counted contents) bodies (omega (arith, count-counted)) (w .settings) (w .whole)
+      (omega (arith, count-counted)))
 
   written-whole :
       every (λ entry. eqb (length (bodyOf (bookOf (counted contents) bodies) entry)) (4 * entry .steps))
@@ -344,7 +396,7 @@ book-format book small = (forward, λ w. subst IsBook (w .5) (written-is (w .0) 
           bodies,
           length-places (entriesOf book) (omega (arith, count-entries book e, b .few)),
           every-joined entryFits (entriesOf book) (replicate (64 - length (entriesOf book)) noEntry)
-              (entries-fit (countIn book) (drop 2 book) (λ i. rw (getD-drop 2 book i 0) (small (2 + i))))
+              (entries-fit (countIn book) (drop 2 book) (small-rest 2 book small))
               (zeros-fit (64 - length (entriesOf book))),
           again-none book e small book (omega arith),
           ap (λ (es : List Entry). bookOf es bodies) (read-counted book e) ∙ book-again book e small,

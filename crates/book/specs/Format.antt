@@ -1,10 +1,13 @@
--- The capture book (01, 'Capture book'), for the reader and for the writer.
+-- The capture book (01, 'Capture book'; 02, f), for the reader and for the writer.
 use mathlib.Core.Path.{_≡_}
-use mathlib.Core.Bool.{Bool}
+use mathlib.Core.Bool.{Bool, true, _&&_}
 use mathlib.Core.List.{List, [], _∷_, _++_}
 use Prim.Native.Nat.{ℕ, zero, suc, _+_, _*_, _-_, _≤_}
 use lib.ListN.{length, getD, take, drop, replicate}
 use Rattle.basics.specs.Fields.{Width, one, two, four, fieldsFit, fieldsAt, fieldBytes}
+use Rattle.basics.specs.First.{Check}
+use Rattle.basics.specs.Settings.{sectionsFit, maskFits, settingsChecks}
+use Rattle.basics.specs.Table.{every}
 use Rattle.book.specs.declared.Entry.{Entry}
 use Rattle.book.specs.declared.Contents.{Contents}
 
@@ -68,6 +71,13 @@ firstBody k = 2 + 12 * k
 abbrev pub bodyEnd : ℕ → Entry → ℕ
 bodyEnd at e = at + 4 * e .steps
 
+-- n and mask of an entry are such as a group may have; refusals 31 and 32 are for those that are not
+abbrev pub settingsFit : Entry → Bool
+settingsFit e = sectionsFit (e .n) && maskFits (e .n) (e .mask)
+
+abbrev pub settingsFaults : Entry → List Check
+settingsFaults e = settingsChecks 31 32 (e .n) (e .mask)
+
 -- spare bytes are 0, each body starts where the one before it ends, the first at a place, and the last ends with a book of
 -- that size
 unfoldable pub InOrder : ℕ → ℕ → List Entry → Type 0
@@ -83,6 +93,7 @@ pub record IsBook (book : List ℕ) : Type 0 where
   pub small : length book ≤ most
   pub one : getD book 0 0 ≡ 1
   pub few : countIn book ≤ 64
+  pub settings : every settingsFit (entriesOf book) ≡ true
   pub order : InOrder (length book) (firstBody (countIn book)) (entriesOf book)
 
 -- the body of an entry, as far as the book reaches; and the bodies joined

@@ -1,4 +1,4 @@
--- Reading a book: refusals 20 to 24, then entry by entry 25, 26 and 27, then 28 (01, 'Numbered refusals').
+-- Reading a book: refusals 20 to 24, then entry by entry 25, 31, 32, 26 and 27, then 28 (01, 'Numbered refusals'; 02, f).
 use mathlib.Core.Bool.{not}
 use mathlib.Core.List.{List, [], _∷_, _++_}
 use Prim.Native.Nat.{ℕ}
@@ -6,7 +6,7 @@ use lib.Dec.{ltb, eqb}
 use lib.ListN.{length, getD}
 use Rattle.basics.specs.Choice.{if_then_else_}
 use Rattle.basics.specs.First.{Check, _when_, firstOf}
-use Rattle.book.specs.Format.{countIn, entriesOf, firstBody, bodyEnd, most, places}
+use Rattle.book.specs.Format.{countIn, entriesOf, firstBody, bodyEnd, settingsFaults, most, places}
 use Rattle.book.specs.declared.Entry.{Entry}
 use Rattle.book.specs.declared.Reading.{Reading}
 
@@ -22,7 +22,9 @@ headFaults book =
 -- of an entry whose body belongs at a place of a book of that size
 abbrev pub entryFaults : ℕ → ℕ → Entry → List Check
 entryFaults size at e =
-    (25 when not (eqb (e .spare) 0)) ∷ (26 when not (eqb (e .offset) at)) ∷ (27 when ltb size (bodyEnd at e)) ∷ []
+    (25 when not (eqb (e .spare) 0))
+    ∷ settingsFaults e
+    ++ ((26 when not (eqb (e .offset) at)) ∷ (27 when ltb size (bodyEnd at e)) ∷ [])
 
 unfoldable pub bodyFaults : ℕ → ℕ → List Entry → List Check
 bodyFaults size at [] = (28 when ltb at size) ∷ []

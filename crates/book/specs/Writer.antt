@@ -1,4 +1,4 @@
--- Writing a book: refusals 23, 30, 20, 29 in this order (01, 'Numbered refusals').
+-- Writing a book: refusal 23, then entry by entry 31 and 32, then 30, 20, 29 in this order (01, 'Numbered refusals'; 02, f).
 use mathlib.Core.Bool.{not}
 use mathlib.Core.List.{List, [], _∷_, _++_}
 use Prim.Native.Nat.{ℕ, zero, suc, _+_, _*_}
@@ -6,7 +6,7 @@ use lib.Dec.{ltb, eqb}
 use lib.ListN.{length, getD, drop}
 use Rattle.basics.specs.Choice.{if_then_else_}
 use Rattle.basics.specs.First.{Check, _when_, firstOf}
-use Rattle.book.specs.Format.{firstBody, most, noEntry, bookOf}
+use Rattle.book.specs.Format.{firstBody, settingsFaults, most, noEntry, bookOf}
 use Rattle.book.specs.declared.Entry.{Entry}
 use Rattle.book.specs.declared.Contents.{Contents}
 use Rattle.book.specs.declared.Writing.{Writing}
@@ -28,13 +28,21 @@ stepsOf (e ∷ rest) = e .steps + stepsOf rest
 abbrev pub size : Contents → ℕ → ℕ
 size contents bodies = firstBody (contents .count) + bodies
 
-abbrev pub writeFaults : Contents → ℕ → ℕ → List Check
-writeFaults contents bodies room =
-    (23 when ltb 64 (contents .count))
-    ∷ (30 when not (eqb bodies (4 * stepsOf (counted contents))))
+unfoldable pub entriesFaults : List Entry → List Check
+entriesFaults [] = []
+entriesFaults (e ∷ rest) = settingsFaults e ++ entriesFaults rest
+
+abbrev pub sizeFaults : Contents → ℕ → ℕ → List Check
+sizeFaults contents bodies room =
+    (30 when not (eqb bodies (4 * stepsOf (counted contents))))
     ∷ (20 when ltb most (size contents bodies))
     ∷ (29 when ltb room (size contents bodies))
     ∷ []
+
+-- in the paper's order
+abbrev pub writeFaults : Contents → ℕ → ℕ → List Check
+writeFaults contents bodies room =
+    (23 when ltb 64 (contents .count)) ∷ entriesFaults (counted contents) ++ sizeFaults contents bodies room
 
 unfoldable pub writeRefusal : Contents → ℕ → ℕ → ℕ
 writeRefusal contents bodies room = firstOf (writeFaults contents bodies room)

@@ -1,4 +1,4 @@
-// Reader and writer of capture books (01, 'Capture book' and refusals 20 to 30).
+// Reader and writer of capture books (01, 'Capture book' and refusals 20 to 30; 02, f: 31 and 32).
 mod format;
 mod listing;
 mod reader;
@@ -7,8 +7,7 @@ mod writer;
 use crate::format::body_size;
 use crate::format::entry_in;
 use crate::format::first_body;
-use crate::listing::list_in;
-use crate::listing::put_list;
+use crate::listing::put_listed;
 use crate::reader::NO_ENTRY;
 use crate::reader::count_of;
 use crate::reader::refusal_of;
@@ -83,29 +82,31 @@ pub fn body(book: &[u8], e: Entry) -> &[u8]
     &rest[..size]
 }
 
-pub fn write(contents: Contents, bodies: &[u8], out: &mut [u8]) -> Writing
-    ensures { λ r. ⌜ Answers writingTold writingCase (writing contents (length (now (bodies .entry))) (length (now (out .entry)))) r ⌝ }
-    ensures { λ _. ⌜ now (out .exit) ≡ output contents (now (bodies .entry)) (now (out .entry)) ⌝ }
+// Contents in 769 bytes by themselves: the count, then 64 places. They are the book's own bytes, with zeros behind them.
+pub fn read_into(book: &[u8], out: &mut [u8; 769]) -> u8
+    ensures { λ r. ⌜ r ≡ reading (now (book .entry)) .refusal ⌝ }
+    ensures { λ _. ⌜ now (out .exit) ≡ bytesOf (reading (now (book .entry)) .contents) ⌝ }
+{
+    let number = refusal_of(book);
+    *out = [0u8; 769];
+    if number == 0 {
+        let count = book[1];
+        let end = first_body(count);
+        put_listed(out, count, &book[2..end]);
+    }
+    number
+}
+
+pub fn write(contents: &[u8; 769], bodies: &[u8], out: &mut [u8]) -> Writing
+    ensures { λ r. ⌜ Answers writingTold writingCase (writing (contentsIn (now (contents .entry))) (length (now (bodies .entry))) (length (now (out .entry)))) r ⌝ }
+    ensures { λ _. ⌜ now (out .exit) ≡ output (contentsIn (now (contents .entry))) (now (bodies .entry)) (now (out .entry)) ⌝ }
 {
     let refusal = write_refusal(contents, bodies, out.len());
     if refusal == 0 {
-        let size = first_body(contents.count) + bodies.len();
+        let size = first_body(contents[0]) + bodies.len();
         put_book(contents, bodies, out);
         Writing::Written(size)
     } else {
         Writing::Refused(refusal)
     }
-}
-
-// The contents as 769 bytes by themselves hold them: the count, then 64 places.
-pub fn contents_in(bytes: &[u8; 769]) -> Contents
-    ensures { λ r. ⌜ r ≡ contentsIn (now (bytes .entry)) ⌝ }
-{
-    list_in(bytes)
-}
-
-pub fn put_contents(out: &mut [u8; 769], contents: Contents)
-    ensures { λ _. ⌜ now (out .exit) ≡ bytesOf contents ⌝ }
-{
-    put_list(out, contents);
 }

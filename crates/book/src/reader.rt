@@ -1,8 +1,9 @@
-// Refusals 20 to 28, and the count of a book that has none (01, 'Numbered refusals').
+// Refusals 20 to 28, 31 and 32, and the count of a book that has none (01, 'Numbered refusals'; 02, f).
 use crate::Entry;
 use crate::format::body_size;
 use crate::format::entry_in;
 use crate::format::first_body;
+use basics::settings::settings_refusal;
 ghost use Prim.Native.Nat.{_≤_};
 ghost use Rattle.basics.specs.First.{firstOf};
 ghost use Rattle.book.specs.Format.{most};
@@ -49,8 +50,12 @@ fn entry_refusal(size: usize, at: usize, e: Entry) -> u8
 {
     let elsewhere = e.offset as usize != at;
     let past = size < at + body_size(e);
+    let settings = settings_refusal(e.n, e.mask, 31, 32);
     if e.spare != 0 {
         return 25;
+    }
+    if settings != 0 {
+        return settings;
     }
     if elsewhere {
         return 26;

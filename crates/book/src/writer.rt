@@ -1,30 +1,71 @@
-// Refusals 23, 30, 20 and 29, and the bytes of a book that has none of them (01, 'Capture book').
-use crate::Contents;
+// Refusals 23, 31, 32, 30, 20 and 29, and the bytes of a book that has none of them (01, 'Capture book'; 02, f). What is
+// handed in are contents in 769 bytes by themselves.
 use crate::format::body_size;
+use crate::format::entry_in;
 use crate::format::first_body;
-use crate::format::placed_at;
-use crate::format::put_entry;
-use crate::format::steps_in;
+use crate::format::put_place;
 use crate::reader::MOST;
-ghost use Prim.Native.Nat.{_+_, _*_};
-ghost use Rattle.book.specs.Format.{firstBody, placed, contentsBytes, bookOf};
-ghost use Rattle.book.specs.Writer.{counted, stepsOf, size, writeRefusal};
+use basics::settings::settings_refusal;
+ghost use Prim.Native.Nat.{_+_, _*_, _≤_};
+ghost use Rattle.basics.specs.First.{firstOf};
+ghost use Rattle.book.specs.Format.{contentsIn, firstBody, placed, contentsBytes, bookOf};
+ghost use Rattle.book.specs.Writer.{counted, stepsOf, size, entriesFaults, writeRefusal};
 ghost use lib.ListN.{length, drop};
 ghost use lib.Seq.{sets};
 ghost use mathlib.Core.List.{_++_};
 ghost use mathlib.Core.Path.{_≡_};
 
-pub(crate) fn write_refusal(contents: Contents, bodies: &[u8], room: usize) -> u8
-    ensures { λ r. ⌜ r ≡ writeRefusal contents (length (now (bodies .entry))) room ⌝ }
+// Entry by entry, the settings of those that count.
+fn settings_in(contents: &[u8]) -> u8
+    requires { ⌜ (length (now contents) ≡ 769) × (contentsIn (now contents) .count ≤ 64) ⌝ }
+    ensures { λ r. ⌜ r ≡ firstOf (entriesFaults (counted (contentsIn (now (contents .entry))))) ⌝ }
 {
-    let count = contents.count;
+    let count = contents[0];
+    let mut i = 0;
+    while i < count as usize {
+        let start = 1 + 12 * i;
+        let e = entry_in(&contents[start..]);
+        let number = settings_refusal(e.n, e.mask, 31, 32);
+        if number != 0 {
+            return number;
+        }
+        i += 1;
+    }
+    0
+}
+
+fn steps_in(contents: &[u8]) -> usize
+    requires { ⌜ (length (now contents) ≡ 769) × (contentsIn (now contents) .count ≤ 64) ⌝ }
+    ensures { λ r. ⌜ (r ≡ stepsOf (counted (contentsIn (now (contents .entry))))) × (r ≤ 64 * 65535) ⌝ }
+{
+    let count = contents[0];
+    let mut total = 0;
+    let mut i = 0;
+    while i < count as usize {
+        let place = 1 + 12 * i;
+        let e = entry_in(&contents[place..]);
+        total += e.steps as usize;
+        i += 1;
+    }
+    total
+}
+
+pub(crate) fn write_refusal(contents: &[u8], bodies: &[u8], room: usize) -> u8
+    requires { ⌜ length (now contents) ≡ 769 ⌝ }
+    ensures { λ r. ⌜ r ≡ writeRefusal (contentsIn (now (contents .entry))) (length (now (bodies .entry))) room ⌝ }
+{
+    let count = contents[0];
     if 64 < count {
         return 23;
     }
+    let settings = settings_in(contents);
     let other = bodies.len() != 4 * steps_in(contents);
     let size = first_body(count) + bodies.len();
     let above = MOST < size;
     let short = room < size;
+    if settings != 0 {
+        return settings;
+    }
     if other {
         return 30;
     }
@@ -37,36 +78,46 @@ pub(crate) fn write_refusal(contents: Contents, bodies: &[u8], room: usize) -> u
     0
 }
 
-// Entry by entry, each with the offset at which its body belongs.
-fn put_entries(contents: Contents, out: &mut [u8])
-    requires { ⌜ writeRefusal contents (4 * stepsOf (counted contents)) (length (now out)) ≡ 0 ⌝ }
-    ensures { λ _. ⌜ now (out .exit) ≡ sets (now (out .entry)) 2 (contentsBytes (placed (firstBody (contents .count)) (counted contents))) ⌝ }
+// Entry by entry, where all of them stand as they were handed in.
+fn put_places(contents: &[u8], out: &mut [u8])
+    requires { ⌜ (length (now contents) ≡ 769) × (writeRefusal (contentsIn (now contents)) (4 * stepsOf (counted (contentsIn (now contents)))) (length (now out)) ≡ 0) × (drop 2 (now out) ≡ contentsBytes (counted (contentsIn (now contents))) ++ drop (firstBody (contentsIn (now contents) .count)) (now out)) ⌝ }
+    ensures { λ _. ⌜ now (out .exit) ≡ sets (now (out .entry)) 2 (contentsBytes (placed (firstBody (contentsIn (now (contents .entry)) .count)) (counted (contentsIn (now (contents .entry)))))) ⌝ }
 {
-    let count = contents.count;
-    let entries = contents.entries;
+    let count = contents[0];
     let mut at = first_body(count);
     let mut i = 0;
     while i < count as usize {
-        let e = entries[i];
-        let place = 2 + 12 * i;
-        put_entry(&mut out[place..], placed_at(at as u32, e));
+        let from = 1 + 12 * i;
+        let e = entry_in(&contents[from..]);
+        let to = 2 + 12 * i;
+        put_place(&mut out[to..], at as u32);
         at += body_size(e);
         i += 1;
     }
 }
 
-// Body by body, each into the part of the output that starts at its offset.
-fn put_bodies(contents: Contents, bodies: &[u8], out: &mut [u8])
-    requires { ⌜ writeRefusal contents (length (now bodies)) (length (now out)) ≡ 0 ⌝ }
-    ensures { λ _. ⌜ now (out .exit) ≡ sets (now (out .entry)) (firstBody (contents .count)) (now (bodies .entry)) ⌝ }
+// The entries as they were handed in, all at once; then what the writer puts there itself.
+fn put_entries(contents: &[u8], out: &mut [u8])
+    requires { ⌜ (length (now contents) ≡ 769) × (writeRefusal (contentsIn (now contents)) (4 * stepsOf (counted (contentsIn (now contents)))) (length (now out)) ≡ 0) ⌝ }
+    ensures { λ _. ⌜ now (out .exit) ≡ sets (now (out .entry)) 2 (contentsBytes (placed (firstBody (contentsIn (now (contents .entry)) .count)) (counted (contentsIn (now (contents .entry)))))) ⌝ }
 {
-    let count = contents.count;
-    let entries = contents.entries;
+    let listed = first_body(contents[0]) - 1;
+    bytes::copy(&contents[1..listed], &mut out[2..]);
+    put_places(contents, out);
+}
+
+// Body by body, each into the part of the output that starts at its offset.
+fn put_bodies(contents: &[u8], bodies: &[u8], out: &mut [u8])
+    requires { ⌜ (length (now contents) ≡ 769) × (writeRefusal (contentsIn (now contents)) (length (now bodies)) (length (now out)) ≡ 0) ⌝ }
+    ensures { λ _. ⌜ now (out .exit) ≡ sets (now (out .entry)) (firstBody (contentsIn (now (contents .entry)) .count)) (now (bodies .entry)) ⌝ }
+{
+    let count = contents[0];
     let mut at = first_body(count);
     let mut from = 0;
     let mut i = 0;
     while i < count as usize {
-        let e = entries[i];
+        let place = 1 + 12 * i;
+        let e = entry_in(&contents[place..]);
         let size = body_size(e);
         let to = from + size;
         let end = at + size;
@@ -77,12 +128,12 @@ fn put_bodies(contents: Contents, bodies: &[u8], out: &mut [u8])
     }
 }
 
-pub(crate) fn put_book(contents: Contents, bodies: &[u8], out: &mut [u8])
-    requires { ⌜ writeRefusal contents (length (now bodies)) (length (now out)) ≡ 0 ⌝ }
-    ensures { λ _. ⌜ now (out .exit) ≡ bookOf (counted contents) (now (bodies .entry)) ++ drop (size contents (length (now (bodies .entry)))) (now (out .entry)) ⌝ }
+pub(crate) fn put_book(contents: &[u8], bodies: &[u8], out: &mut [u8])
+    requires { ⌜ (length (now contents) ≡ 769) × (writeRefusal (contentsIn (now contents)) (length (now bodies)) (length (now out)) ≡ 0) ⌝ }
+    ensures { λ _. ⌜ now (out .exit) ≡ bookOf (counted (contentsIn (now (contents .entry)))) (now (bodies .entry)) ++ drop (size (contentsIn (now (contents .entry))) (length (now (bodies .entry)))) (now (out .entry)) ⌝ }
 {
     out[0] = 1;
-    out[1] = contents.count;
+    out[1] = contents[0];
     put_entries(contents, out);
     put_bodies(contents, bodies, out);
 }

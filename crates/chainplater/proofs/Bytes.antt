@@ -10,7 +10,8 @@ use lib.Seq.{take-all}
 use borrow.Author.Tests.{lt-ltb}
 use Rattle.basics.specs.Bytes.{fourBytes}
 use Rattle.basics.proofs.Fields.{fields-back, fields-again}
-use Rattle.pair.specs.Coder.{sectionsFit, encoding}
+use Rattle.basics.specs.Settings.{sectionsFit}
+use Rattle.pair.specs.Coder.{encoding}
 use Rattle.controller.specs.Refusals.{refusal}
 use Rattle.controller.specs.Step.{moved, step}
 use Rattle.controller.specs.declared.Controller.{Controller}

@@ -1,3 +1,4 @@
 -- Theorems is the front door.
 mod Bytes
+mod Captures
 mod Theorems

@@ -6,23 +6,26 @@ use Prim.Native.Nat.{ℕ, _<_}
 use lib.ListN.{length, getD, replicate}
 use denote.Ref.{now}
 use Rattle.basics.specs.Bytes.{fourBytes}
+use Rattle.basics.specs.Settings.{sectionsFit}
 use Rattle.basics.proofs.One.{OneAnswer, OneContent, one-value}
 use Rattle.pair.specs.declared.Value.{Value}
-use Rattle.pair.specs.Coder.{Decoding, Encoding, sectionsFit, encoding}
+use Rattle.pair.specs.Coder.{Decoding, Encoding, encoding}
+use Rattle.controller.specs.Settings.{fresh, making}
 use Rattle.controller.specs.Step.{step}
 use Rattle.controller.specs.declared.Controller.{Controller}
 use Rattle.controller.specs.declared.Outcome.{Outcome}
-use Rattle.explain.specs.Verdict.{Judging}
-use Rattle.book.specs.Format.{contentsIn, bytesOf}
+use Rattle.explain.specs.Verdict.{Judging, Right}
+use Rattle.book.specs.Format.{contentsIn, bytesOf, bodyOf, noEntry}
 use Rattle.book.specs.Reader.{reading}
-use Rattle.book.specs.Writer.{writing, output}
-use Rattle.book.proofs.Lists.{length-listed}
+use Rattle.book.specs.Writer.{counted, writing, output}
+use Rattle.book.proofs.Laid.{length-listed}
 use Rattle.book.proofs.Trips.{contents-back, read-places}
 use Rattle.chainplater.specs.Coder.{valueBytes, flag, decodedBytes, encodedBytes, encodingBytes}
 use Rattle.chainplater.specs.Record.{recordIn, recordBytes, outcomeBytes}
 use Rattle.chainplater.specs.Verdict.{judgingBytes}
 use Rattle.chainplater.proofs.Bytes.{record-size, outcome-size, record-back, record-again, refused-bytes}
 use Rattle.chainplater.proofs.Bytes.{refused-write, flag-taken, flag-refused, same-refusal, same-bytes}
+use Rattle.chainplater.proofs.Captures.{capture-fresh, capture-judged}
 use Rattle.chainplater.proofs.chainplater_fresh.Kinds as fresh-kinds
 use Rattle.chainplater.proofs.chainplater_fresh.Reads as fresh-fn
 use Rattle.chainplater.proofs.chainplater_fresh.Statement as fresh-statement
@@ -182,6 +185,20 @@ write-refused contents = refused-write (contentsIn contents)
 -- The contents that are read are the contents that are written, if their bytes are handed on.
 contents-right : (book : List ℕ) → contentsIn (bytesOf (reading book .contents)) ≡ reading book .contents
 contents-right book = contents-back (reading book .contents) (read-places book)
+
+-- From the settings of every capture of a book that was read a fresh record is made; and the judge refuses no such capture:
+-- its settings fit, and its body is whole steps, no more of them than the judge takes.
+captures-fresh : (book : List ℕ) → reading book .refusal ≡ 0
+    → (i : ℕ) → i < length (counted (reading book .contents)) →
+    let e = getD (counted (reading book .contents)) i noEntry in
+    making (e .n) (e .mask) (e .w) ≡ record { refusal = 0; controller = fresh (e .n) (e .mask) (e .w) }
+captures-fresh = capture-fresh
+
+captures-judged : (book : List ℕ) → reading book .refusal ≡ 0
+    → (i : ℕ) → i < length (counted (reading book .contents)) →
+    let e = getD (counted (reading book .contents)) i noEntry in
+    (j : Judging) → Right (e .n) (e .mask) (e .w) (bodyOf book e) j → j .refusal ≡ 0
+captures-judged = capture-judged
 
 -- A flag is encoded as it was decoded, and one that no pair decodes to has refusal 10, behind refusal 1.
 flag-right : (n code channel bridged : ℕ) (remote : Bool)

@@ -4,8 +4,9 @@ use mathlib.Core.List.{List, [], _∷_}
 use Prim.Native.Nat.{ℕ}
 use lib.Dec.{ltb, eqb}
 use Rattle.basics.specs.Choice.{if_then_else_}
+use Rattle.basics.specs.Settings.{sectionsFit}
 use Rattle.pair.specs.declared.Value.{Value}
-use Rattle.pair.specs.Coder.{Decoding, Encoding, sectionsFit, encoding}
+use Rattle.pair.specs.Coder.{Decoding, Encoding, encoding}
 
 -- rank, least n, greatest n, mark
 abbrev pub valueBytes : Value → List ℕ

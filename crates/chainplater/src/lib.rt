@@ -4,6 +4,7 @@ mod record;
 use crate::record::outcome_bytes;
 use crate::record::record_bytes;
 use crate::record::record_in;
+use basics::settings::sections_fit;
 use book::Writing;
 use controller::Controller;
 use controller::Made;
@@ -96,7 +97,7 @@ pub extern "C" fn chainplater_encode(
     ensures { λ _. ⌜ now (out .exit) ≡ encodedBytes (encodingBytes n code channel bridged remote) ⌝ }
 {
     // no usable pair decodes to a flag above 1 (01, refusal 10); refusal 1 comes before it
-    if pair::sections_fit(n) & (1 < remote) {
+    if sections_fit(n) & (1 < remote) {
         *out = [0, 0];
         return 10;
     }
@@ -167,10 +168,7 @@ pub extern "C" fn chainplater_read(book: &[u8], out: &mut [u8; 769]) -> u8
     ensures { λ r. ⌜ r ≡ reading (now (book .entry)) .refusal ⌝ }
     ensures { λ _. ⌜ now (out .exit) ≡ bytesOf (reading (now (book .entry)) .contents) ⌝ }
 {
-    let answer = book::read(book);
-    let contents = answer.contents;
-    book::put_contents(out, contents);
-    answer.refusal
+    book::read_into(book, out)
 }
 
 fn four_bytes(v: u32) -> [u8; 4]
@@ -197,7 +195,7 @@ pub extern "C" fn chainplater_write(
     ensures { λ _. ⌜ now (out .exit) ≡ output (contentsIn (now (contents .entry))) (now (bodies .entry)) (now (out .entry)) ⌝ }
     ensures { λ _. ⌜ now (size .exit) ≡ fourBytes (writing (contentsIn (now (contents .entry))) (length (now (bodies .entry))) (length (now (out .entry))) .bytes) ⌝ }
 {
-    match book::write(book::contents_in(contents), bodies, out) {
+    match book::write(contents, bodies, out) {
         Writing::Written(k) => {
             *size = four_bytes(k as u32);
             0

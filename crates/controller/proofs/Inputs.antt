@@ -3,17 +3,16 @@ use mathlib.Core.Path.{_≡_, refl}
 use mathlib.Core.Bool.{Bool, true, false, not, _&&_, and-eq-true-iff}
 use mathlib.Core.List.{List}
 use Prim.Native.Nat.{ℕ, _+_, _≤_}
-use native.Mathlib.Omega.{arith}
 use lib.Dec.{eqb}
 use lib.ListN.{length, drop}
 use borrow.Author.Tests.{eqb-true, ltb-false, not-false, not-true}
 use Rattle.basics.specs.Choice.{if_then_else_}
 use Rattle.basics.specs.First.{firstOf}
+use Rattle.basics.specs.Settings.{sectionsFit, maskFits}
 use Rattle.basics.proofs.First.{CountedFrom, none-exact}
 use Rattle.pair.specs.Request.{requests, carries}
 use Rattle.pair.specs.Marks.{codeOf, channelOf, usable}
-use Rattle.pair.specs.Coder.{sectionsFit}
-use Rattle.controller.specs.Settings.{maskFits, settingsFaults}
+use Rattle.controller.specs.Settings.{settingsFaults}
 use Rattle.controller.specs.Refusals.{againstMask, waitFits, acceptable, conditionsFit, channelFits, stepFaults, refusal}
 use Rattle.controller.specs.declared.Controller.{Controller}
 
@@ -93,12 +92,3 @@ pub refusal-by-settings : (s : Controller) (conditions : List ℕ) (command c : 
 unfolding refusal
 refusal-by-settings s conditions command c =
     by-settings (sectionsFit (s .n)) (maskFits (s .n) (s .mask)) (firstOf (drop 2 (stepFaults s conditions command c)))
-
-pub settings-fit : (n mask : ℕ) → firstOf (settingsFaults n mask) ≡ 0
-    → (sectionsFit n ≡ true) × (maskFits n mask ≡ true)
-settings-fit n mask h = go (sectionsFit n) (maskFits n mask) refl refl
-  where
-    go : (f m : Bool) → sectionsFit n ≡ f → maskFits n mask ≡ m → (sectionsFit n ≡ true) × (maskFits n mask ≡ true)
-    go true true ef em = (ef, em)
-    go true false ef em = let no : _≡_ {A = ℕ} 2 0 = rw (ef, em) at h in absurd (omega arith)
-    go false m ef em = let no : _≡_ {A = ℕ} 1 0 = rw ef at h in absurd (omega arith)

@@ -8,10 +8,11 @@ use native.Mathlib.Omega.{arith}
 use lib.Dec.{ltb, leb, eqb}
 use lib.ListN.{length, drop}
 use borrow.Author.Tests.{leb-true, eqb-true, eqb-false, le-leb, le-ltb, eq-eqb, ne-eqb}
-use Rattle.basics.proofs.Table.{every}
+use Rattle.basics.specs.Table.{every}
+use Rattle.basics.specs.Settings.{sectionsFit, maskFits}
 use Rattle.pair.specs.Request.{carries}
 use Rattle.pair.specs.Marks.{codeOf, channelOf, lineBits, usable, alarm}
-use Rattle.pair.specs.Coder.{sectionsFit, encodable}
+use Rattle.pair.specs.Coder.{encodable}
 use Rattle.pair.specs.declared.Pair.{Pair}
 use Rattle.pair.proofs.Coding.{UsablePair, parts-usable, bytes-usable}
 use Rattle.request.specs.Order.{same}
@@ -19,7 +20,7 @@ use Rattle.request.specs.Command.{fate}
 use Rattle.request.specs.Bridge.{bridge}
 use Rattle.request.specs.declared.Request.{Request}
 use Rattle.request.proofs.Channels.{bridge-within}
-use Rattle.controller.specs.Settings.{maskFits, idleK1, fresh, makingCase, making}
+use Rattle.controller.specs.Settings.{idleK1, fresh, makingCase, making}
 use Rattle.controller.specs.Rules.{asked, accepting, held, kept, given, replacesHeld, inForce, isWait, waiting}
 use Rattle.controller.specs.Rules.{localRequest, decided, leftAfter, keepsBridge, k1Of, k2Of}
 use Rattle.controller.specs.Refusals.{waitFits, acceptable, conditionsFit, channelFits, refusal}

@@ -7,13 +7,13 @@ use lib.Dec.{eqb}
 use borrow.Author.Tests.{eqb-true, eqb-false}
 use Rattle.basics.specs.Answer.{Answers}
 use Rattle.basics.specs.First.{firstOf}
+use Rattle.basics.proofs.Fitting.{settings-fit}
 use Rattle.basics.proofs.One.{answers}
-use Rattle.pair.specs.Coder.{sectionsFit}
-use Rattle.controller.specs.Settings.{maskFits, fresh, settingsFaults, makingTold, makingCase, making}
+use Rattle.basics.specs.Settings.{sectionsFit, maskFits}
+use Rattle.controller.specs.Settings.{fresh, settingsFaults, makingTold, makingCase, making}
 use Rattle.controller.specs.declared.Controller.{Controller}
 use Rattle.controller.specs.declared.Made.{Made}
 use Rattle.controller.specs.declared.Made.the-variants as made
-use Rattle.controller.proofs.Inputs.{settings-fit}
 
 making-whole : (n mask w : ℕ) → makingTold (makingCase (making n mask w)) ≡ making n mask w
 unfolding making
@@ -37,7 +37,7 @@ fresh-facts n mask w s h = go (eqb (firstOf (settingsFaults n mask)) 0) refl
         → (s ≡ fresh n mask w) × (sectionsFit n ≡ true) × (maskFits n mask ≡ true)
     go true z =
         let e : made.Fresh (fresh n mask w) ≡ made.Fresh s = rw z at h in
-        let fits = settings-fit n mask (eqb-true (firstOf (settingsFaults n mask)) 0 z) in
+        let fits = settings-fit 1 2 n mask refl (eqb-true (firstOf (settingsFaults n mask)) 0 z) in
         (cc, fits .0, fits .1)
     go false z =
         let e : made.Refused (firstOf (settingsFaults n mask)) ≡ made.Fresh s = simp z at h in

@@ -8,8 +8,9 @@ use native.Mathlib.Omega.{arith}
 use lib.Dec.{leb, eqb, leb·zero}
 use lib.ListN.{length}
 use borrow.Author.Tests.{eqb-true, eqb-false, le-leb}
+use Rattle.basics.specs.Settings.{sectionsFit}
+use Rattle.basics.proofs.Fitting.{fit-bounds}
 use Rattle.pair.specs.Request.{requests, carries, a-section}
-use Rattle.pair.specs.Coder.{sectionsFit}
 use Rattle.pair.proofs.Rows.{heldIn, carries-section, carried-below, carried-within}
 use Rattle.request.specs.declared.Request.{Request}
 use Rattle.request.proofs.Order.{Each}
@@ -18,7 +19,6 @@ use Rattle.controller.specs.Rules.{request, lockout, forced, manual, wai
 use Rattle.controller.specs.Rules.{failCode, degradeCode, condition, conditionsFrom, isWait}
 use Rattle.controller.specs.Refusals.{otherPriority, againstMask}
 use Rattle.controller.proofs.Apart.{condition-has}
-use Rattle.pair.proofs.Looking.{fit-bounds}
 
 module _ (n mask now : ℕ) where
   pub record Sendable (r : Request) : Type 0 where

@@ -10,6 +10,7 @@ use native.Mathlib.Omega.{arith}
 use lib.Dec.{ltb}
 use lib.ListN.{length, getD, drop, List·getD-eq-default}
 use borrow.Author.Tests.{ltb-true, ltb-false}
+use Rattle.basics.proofs.Fitting.{fit-bounds}
 use Rattle.pair.specs.Request.{rankOf}
 use Rattle.request.specs.Order.{turn, byRank, byTurn, best, OneOf}
 use Rattle.request.specs.declared.Request.{Request}
@@ -25,7 +26,6 @@ use Rattle.controller.specs.declared.Outcome.{Outcome}
 use Rattle.controller.proofs.Apart.{none-rank, other-rank, command-kind, wait-kind, no-command, no-wait, own-channel}
 use Rattle.controller.proofs.Candidates.{candidate-split, candidate-one}
 use Rattle.controller.proofs.Sections.{some-section, section-one}
-use Rattle.pair.proofs.Looking.{fit-bounds}
 use Rattle.controller.proofs.Inputs.{WellFormed, well-formed}
 use Rattle.controller.proofs.Keeping.{Kept, Sent, k1-back, not-refused, step-keeps}
 

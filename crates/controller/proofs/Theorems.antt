@@ -9,7 +9,7 @@ use lib.ListN.{getD}
 use Rattle.basics.specs.First.{appliesAt, FirstAt}
 use Rattle.basics.proofs.First.{first-exact, none-exact}
 use Rattle.basics.proofs.One.{OneAnswer, one-value, one-case}
-use Rattle.basics.proofs.Table.{every}
+use Rattle.basics.specs.Table.{every}
 use Rattle.pair.specs.Request.{listed, carries, rankIn, rankOf}
 use Rattle.pair.specs.Marks.{lineBits, finding, usable, alarm, mark}
 use Rattle.request.specs.Order.{byRank, byTurn, best, OneOf}

@@ -8,9 +8,10 @@ use native.Mathlib.Omega.{arith}
 use lib.Dec.{leb·zero}
 use denote.Enum.Declared.{tagOf}
 use types.Run.{OneOf}
+use Rattle.basics.specs.Settings.{sectionsFit}
 use Rattle.pair.specs.Request.{requests, carries}
 use Rattle.pair.specs.Marks.{codeOf, channelOf, usable}
-use Rattle.pair.specs.Coder.{sectionsFit, decodingCase, pairOf, decoding}
+use Rattle.pair.specs.Coder.{decodingCase, pairOf, decoding}
 use Rattle.pair.specs.declared.Decoded.{Decoded}
 use Rattle.pair.specs.declared.Decoded.the-variants as decoded
 use Rattle.pair.proofs.Decoded.{the-type}

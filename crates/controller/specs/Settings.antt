@@ -1,11 +1,11 @@
 -- Settings, and the fresh record (01, 'Settings' and 'One step').
-use mathlib.Core.Bool.{Bool, true, not}
-use mathlib.Core.List.{List, [], _∷_}
+use mathlib.Core.Bool.{Bool, true}
+use mathlib.Core.List.{List}
 use Prim.Native.Nat.{ℕ, _-_, _/_, _%_, _^_}
 use lib.Dec.{eqb}
 use Rattle.basics.specs.Choice.{if_then_else_}
-use Rattle.basics.specs.First.{Check, _when_, firstOf}
-use Rattle.pair.specs.Coder.{sectionsFit}
+use Rattle.basics.specs.First.{Check, firstOf}
+use Rattle.basics.specs.Settings.{settingsChecks}
 use Rattle.controller.specs.declared.Controller.{Controller}
 use Rattle.controller.specs.declared.Made.{Made}
 use Rattle.controller.specs.declared.Made.the-variants as made
@@ -13,10 +13,6 @@ use Rattle.controller.specs.declared.Made.the-variants as made
 -- section c is of high priority by bit c-1 of the mask, section 0 by itself
 abbrev pub high : ℕ → ℕ → Bool
 high mask c = if eqb c 0 then true else eqb (mask / 2 ^ (c - 1) % 2) 1
-
--- the mask has no bit at n or above
-abbrev pub maskFits : ℕ → ℕ → Bool
-maskFits n mask = eqb (mask / 2 ^ n) 0
 
 -- the idle pair, which a fresh record has accepted; its K1 is the one last sent
 abbrev pub idleK1 : ℕ
@@ -30,7 +26,7 @@ fresh n mask w = record { n = n; mask = mask; w = w; k1 = idleK1; k2 = idleK2; s
 
 -- refusals 1 and 2
 abbrev pub settingsFaults : ℕ → ℕ → List Check
-settingsFaults n mask = (1 when not (sectionsFit n)) ∷ (2 when not (maskFits n mask)) ∷ []
+settingsFaults n mask = settingsChecks 1 2 n mask
 
 -- what making a fresh record answers: a refusal with zeros, or the record
 pub record Making : Type 0 where

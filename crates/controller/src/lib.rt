@@ -12,7 +12,7 @@ pub mod wait;
 use crate::answer::moved;
 use crate::answer::refused_step;
 use crate::refusal::refusal_of;
-use crate::refusal::settings_refusal;
+use basics::settings::settings_refusal;
 use pair::table::numbers;
 use request::Request;
 ghost use Rattle.basics.specs.Answer.{Answers};
@@ -40,7 +40,7 @@ impl Controller {
     pub fn fresh(n: u8, mask: u16, w: u16) -> Made
         ensures { λ r. ⌜ Answers makingTold makingCase (making n mask w) r ⌝ }
     {
-        let refusal = settings_refusal(n, mask);
+        let refusal = settings_refusal(n, mask, 1, 2);
         if refusal == 0 {
             let k1 = Controller::IDLE_K1;
             let k2 = Controller::IDLE_K2;

@@ -6,39 +6,16 @@ use crate::codes::FAIL_HIGH;
 use crate::codes::FAIL_LOW;
 use crate::section::high;
 use crate::wait::is_wait;
+use basics::settings::settings_refusal;
 use pair::mark::second_usable;
-use pair::sections_fit;
 use pair::table::usable_in;
-ghost use Rattle.basics.specs.First.{firstOf};
+ghost use Rattle.basics.specs.Settings.{sectionsFit};
 ghost use Rattle.controller.specs.Refusals.{otherPriority, againstMask, waitFits, acceptable};
 ghost use Rattle.controller.specs.Refusals.{conditionsFit, channelFits, refusal};
-ghost use Rattle.controller.specs.Settings.{maskFits, settingsFaults};
-ghost use Rattle.pair.specs.Coder.{sectionsFit};
 ghost use Rattle.pair.specs.Request.{requests};
 ghost use Rattle.pair.specs.Table.{numberFor};
 ghost use mathlib.Core.Bool.{true};
 ghost use mathlib.Core.Path.{_≡_};
-
-fn mask_fits(n: u8, mask: u16) -> bool
-    requires { ⌜ sectionsFit n ≡ true ⌝ }
-    ensures { λ r. ⌜ r ≡ maskFits n mask ⌝ }
-{
-    mask >> n == 0
-}
-
-pub(crate) fn settings_refusal(n: u8, mask: u16) -> u8
-    ensures { λ r. ⌜ r ≡ firstOf (settingsFaults n mask) ⌝ }
-{
-    let n_fits = sections_fit(n);
-    if !n_fits {
-        return 1;
-    }
-    let mask_good = mask_fits(n, mask);
-    if !mask_good {
-        return 2;
-    }
-    0
-}
 
 fn other_priority(high: bool, code: u8) -> bool
     ensures { λ r. ⌜ r ≡ otherPriority high code ⌝ }
@@ -115,7 +92,7 @@ pub(crate) fn refusal_of(
     ensures { λ r. ⌜ r ≡ refusal s (now (conditions .entry)) command c ⌝ }
 {
     let n = s.n;
-    let settings = settings_refusal(n, s.mask);
+    let settings = settings_refusal(n, s.mask, 1, 2);
     if settings != 0 {
         return settings;
     }

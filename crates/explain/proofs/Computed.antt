@@ -6,7 +6,7 @@ use lib.Dec.{eqb}
 use lib.ListN.{length}
 use borrow.Author.Tests.{eqb-true}
 use Rattle.basics.specs.First.{firstOf}
-use Rattle.basics.proofs.Table.{every}
+use Rattle.basics.specs.Table.{every}
 use Rattle.pair.specs.Request.{listed, carries, rankIn, rankOf}
 use Rattle.pair.specs.Marks.{finding, usable}
 use Rattle.controller.specs.Settings.{fresh}

@@ -13,8 +13,8 @@ use lib.Seq.{take-all, take-take}
 use borrow.Author.Tests.{ltb-true, ltb-false}
 use Rattle.basics.specs.Choice.{if_then_else_}
 use Rattle.basics.specs.First.{firstOf}
-use Rattle.pair.specs.Coder.{sectionsFit}
-use Rattle.controller.specs.Settings.{maskFits, fresh}
+use Rattle.basics.specs.Settings.{sectionsFit, maskFits}
+use Rattle.controller.specs.Settings.{fresh}
 use Rattle.controller.specs.declared.Controller.{Controller}
 use Rattle.controller.proofs.Keeping.{fresh-acceptable}
 use Rattle.explain.specs.Capture.{Row, rowsOf}

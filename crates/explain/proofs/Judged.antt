@@ -9,9 +9,9 @@ use lib.ListN.{length}
 use borrow.Author.Tests.{eqb-true, eqb-false, ltb-false, ne-eqb, not-false}
 use Rattle.basics.specs.First.{firstOf}
 use Rattle.basics.proofs.First.{none-exact, none-both, first-behind, first-before}
-use Rattle.pair.specs.Coder.{sectionsFit}
-use Rattle.controller.specs.Settings.{maskFits, fresh, settingsFaults}
-use Rattle.controller.proofs.Inputs.{settings-fit}
+use Rattle.basics.proofs.Fitting.{settings-fit}
+use Rattle.basics.specs.Settings.{sectionsFit, maskFits}
+use Rattle.controller.specs.Settings.{fresh, settingsFaults}
 use Rattle.explain.specs.Capture.{rowsOf}
 use Rattle.explain.specs.Verdict.{Judging, refusedBy, sizeFaults, judgeFaults, most, Right}
 use Rattle.explain.specs.Trace.{start, Fit, scanned}
@@ -68,6 +68,6 @@ module _ (n mask w : ℕ) (bytes : List ℕ) where
       go true e =
           let none = eqb-true refusal 0 e in
           let parts = none-both (settingsFaults n mask) (sizeFaults (length bytes)) refl none in
-          let fits = settings-fit n mask (parts .0) in
+          let fits = settings-fit 1 2 n mask refl (parts .0) in
           (scanned (fresh n mask w) bytes, scanned-right (fits .0) (fits .1) (parts .1))
       go false e = (refusedBy refusal, refused-right (eqb-false refusal 0 e))

@@ -8,14 +8,14 @@ use lib.Dec.{eqb}
 use lib.ListN.{length}
 use borrow.Author.Tests.{eqb-true, eq-eqb, le-leb}
 use Rattle.basics.specs.Choice.{if_then_else_}
+use Rattle.basics.specs.Settings.{sectionsFit, maskFits}
 use Rattle.pair.specs.Request.{requests, carries}
 use Rattle.pair.specs.Marks.{codeOf, channelOf, usable, alarm, mark}
-use Rattle.pair.specs.Coder.{sectionsFit}
 use Rattle.pair.proofs.Coding.{usable-parts}
 use Rattle.request.specs.Bridge.{bridge}
 use Rattle.request.specs.declared.Request.{Request}
 use Rattle.request.proofs.Channels.{bridge-within}
-use Rattle.controller.specs.Settings.{maskFits, idleK1, idleK2}
+use Rattle.controller.specs.Settings.{idleK1, idleK2}
 use Rattle.controller.specs.Rules.{asked, accepted, accepting, held, isWait, decided, leftAfter, keepsBridge}
 use Rattle.controller.specs.Rules.{k1Of, k2Of}
 use Rattle.controller.specs.Refusals.{acceptable, refusal}

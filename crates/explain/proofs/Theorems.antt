@@ -7,12 +7,12 @@ use Prim.Native.Nat.{ℕ, _+_, _<_}
 use lib.Dec.{eqb}
 use lib.ListN.{length, take}
 use Rattle.basics.specs.First.{firstOf}
+use Rattle.basics.specs.Settings.{sectionsFit, maskFits}
 use Rattle.basics.proofs.One.{OneAnswer}
 use Rattle.pair.specs.Request.{requests, carries}
 use Rattle.pair.specs.Marks.{alarm}
-use Rattle.pair.specs.Coder.{sectionsFit}
 use Rattle.request.specs.declared.Request.{Request}
-use Rattle.controller.specs.Settings.{maskFits, idleK1, idleK2, fresh}
+use Rattle.controller.specs.Settings.{idleK1, idleK2, fresh}
 use Rattle.controller.specs.Rules.{noRequest}
 use Rattle.controller.specs.Refusals.{acceptable}
 use Rattle.controller.specs.Step.{protection}

@@ -7,9 +7,9 @@ use mathlib.Core.List.{List}
 use Prim.Native.Nat.{ℕ, _≤_}
 use lib.Dec.{eqb}
 use Rattle.basics.specs.Choice.{if_then_else_}
+use Rattle.basics.specs.Settings.{sectionsFit}
 use Rattle.pair.specs.Request.{requests, carries}
 use Rattle.pair.specs.Marks.{channelOf, usable, alarmIn}
-use Rattle.pair.specs.Coder.{sectionsFit}
 use Rattle.request.specs.Bridge.{bridge}
 use Rattle.request.specs.declared.Request.{Request}
 use Rattle.controller.specs.Settings.{idleK1, idleK2}

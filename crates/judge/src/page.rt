@@ -1,7 +1,7 @@
 // A page of text, filled from the start and written at once. Each function takes where its text begins and answers where
 // the next one does; a text that the page has no room for is dropped.
 
-// A table has a header of 34 bytes and at most 64 lines of 31, as '63 255 65535 unexplained 65535'.
+// A table has a header of 34 bytes and at most 64 lines, none of more than 30, as '63 14 16191 unexplained 16190'.
 pub(crate) const ROOM: usize = 2048;
 
 pub(crate) fn put(page: &mut [u8], at: usize, text: &[u8]) -> usize {

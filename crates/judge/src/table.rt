@@ -21,6 +21,8 @@ fn put_last(page: &mut [u8], at: usize, word: &[u8], v: u64) -> usize {
     put(page, at, b"\n")
 }
 
+// The last case does not come up: of a book that was read the settings fit (`settings-right` of `book`), and no capture of it
+// is refused by the judge (`captures-judged` of `chainplater`). The judge has it for its other callers.
 fn put_verdict(page: &mut [u8], at: usize, verdict: Verdict) -> usize {
     match verdict {
         Verdict::Explained(steps) => put_last(page, at, b"explained ", steps as u64),

@@ -9,15 +9,16 @@ use lib.Dec.{leb, ltb, eqb, lit<}
 use lib.ListN.{drop}
 use borrow.Author.Tests.{ltb-true, lt-leb, leb-true, ltb-false, eqb-true, eqb-false, eq-eqb, ne-eqb, le-leb, le-ltb, not-false}
 use Rattle.basics.specs.Answer.{Answers}
+use Rattle.basics.specs.First.{_when_, firstOr}
+use Rattle.basics.specs.Settings.{sectionsFit}
 use Rattle.basics.proofs.One.{answers}
 use Rattle.basics.proofs.First.{never-given, none-of}
-use Rattle.basics.specs.First.{_when_, firstOr}
 use Rattle.pair.specs.Request.{requests, listed, carries}
 use Rattle.pair.specs.Marks.{codeOf, channelOf, bridgedOf, bit5, lineBits}
 use Rattle.pair.specs.Marks.{Finding, nothing, alarmed, marked, checksWith, pairChecks, finding, isNothing, isAlarm, markIn}
 use Rattle.pair.specs.Marks.{usable, alarm, mark, secondUsable, alarmIn}
 use Rattle.pair.specs.Table.{numberFor, listedIn, usableIn}
-use Rattle.pair.specs.Coder.{sectionsFit, decodingTold, decodingCase, pairOf, decodingOf, decodingBy, decoding, decodingLooked}
+use Rattle.pair.specs.Coder.{decodingTold, decodingCase, pairOf, decodingOf, decodingBy, decoding, decodingLooked}
 use Rattle.pair.specs.Coder.{lineOf, encodingTold, encodingCase, encodable, encoding}
 use Rattle.pair.specs.declared.Pair.{Pair}
 use Rattle.pair.specs.declared.Decoded.{Decoded}

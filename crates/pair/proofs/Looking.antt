@@ -8,19 +8,16 @@ use native.Mathlib.Omega.{arith}
 use lib.Dec.{leb, eqb}
 use lib.ListN.{getD}
 use borrow.Author.Tests.{leb-true, le-leb, lt-leb, eqb-true, eqb-false}
+use Rattle.basics.specs.Settings.{sectionsFit}
+use Rattle.basics.proofs.Fitting.{fit-bounds}
 use Rattle.basics.proofs.Table.{entry-is}
 use Rattle.pair.specs.Request.{Row, channel-0, a-section, classOf, listed, carries, rankIn}
 use Rattle.pair.specs.Marks.{codeOf, channelOf}
 use Rattle.pair.specs.Table.{usableFor, rankFor, leastFrom, greatestTo, leastOf, greatestOf, markFor, valueOf}
 use Rattle.pair.specs.Table.{numberOf, valueIn, numberFor, tableOf, readBy}
 use Rattle.pair.specs.Table.{listedIn, usableIn, readIn}
-use Rattle.pair.specs.Coder.{sectionsFit}
 use Rattle.pair.specs.declared.Value.{Value}
 use Rattle.pair.proofs.Rows.{heldIn, carries-0, carries-section, carried-within, carried-listed, unheld, and-true}
-
-pub fit-bounds : (n : ℕ) → sectionsFit n ≡ true → (1 ≤ n) × (n ≤ 14)
-fit-bounds n fits =
-    let both = and-eq-true-iff (leb 1 n) (leb n 14) .0 fits in (leb-true 1 n (both .0), leb-true n 14 (both .1))
 
 -- the least and the greatest n for which a test holds
 module _ (test : ℕ → Bool) where

@@ -9,7 +9,8 @@ use lib.Dec.{eqb, leb, ltb, lit<}
 use lib.ListN.{length, getD}
 use borrow.Author.Tests.{eqb-true, leb-true, lt-ltb}
 use Rattle.basics.specs.Choice.{if_then_else_}
-use Rattle.basics.proofs.Table.{every, at-entry}
+use Rattle.basics.specs.Table.{every}
+use Rattle.basics.proofs.Table.{at-entry}
 use Rattle.pair.specs.Request.{Channels, zero-only, sections, zero-and-sections, Row, row, requests}
 use Rattle.pair.specs.Request.{among, stands, carries}
 use Rattle.pair.specs.Request.{Class, channel-0, a-section, classOf, includes, rankIn, rankOf}

@@ -6,7 +6,7 @@ use Prim.Native.Nat.{ℕ, _≤_, _<_}
 use native.Mathlib.Omega.{arith}
 use lib.Dec.{leb, ltb, eqb, leb·zero}
 use borrow.Author.Tests.{ltb-true, ltb-false, leb-true, eqb-true, eqb-false, ne-eqb, le-leb}
-use Rattle.basics.proofs.Table.{every}
+use Rattle.basics.specs.Table.{every}
 use Rattle.pair.specs.Request.{Channels, zero-only, sections, zero-and-sections, Row, among, listed, carries}
 use Rattle.pair.specs.Request.{Class, channel-0, a-section, includes, rankIn}
 

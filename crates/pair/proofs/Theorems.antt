@@ -6,12 +6,13 @@ use mathlib.Core.Logic.{_↔_, _⊎_}
 use Prim.Native.Nat.{ℕ, _<_, _≤_}
 use lib.ListN.{length, getD}
 use Rattle.basics.specs.First.{appliesAt, answerOr, FirstAt}
+use Rattle.basics.specs.Settings.{sectionsFit}
 use Rattle.basics.proofs.First.{first-given, first-shown, none-of}
 use Rattle.basics.proofs.One.{OneAnswer, one-value, one-case}
 use Rattle.pair.specs.Request.{forcedCode, failHighCode, Row, requests, stands, rankOf}
 use Rattle.pair.specs.Marks.{nothing, pairChecks, finding, isNothing, usable, alarm, mark, secondUsable, alarmIn}
 use Rattle.pair.specs.Table.{usableFor, valueIn, numberFor, tableOf, readBy, readIn}
-use Rattle.pair.specs.Coder.{sectionsFit, decodingCase, decoding, decodingLooked, encodingCase, encodable, encoding}
+use Rattle.pair.specs.Coder.{decodingCase, decoding, decodingLooked, encodingCase, encodable, encoding}
 use Rattle.pair.specs.declared.Pair.{Pair}
 use Rattle.pair.specs.declared.Decoded.the-variants as decoded
 use Rattle.pair.specs.declared.Encoded.the-variants as encoded
@@ -19,10 +20,6 @@ use Rattle.pair.proofs.Coding.{fit-found, pair-back, record-back, recor
 use Rattle.pair.proofs.Coding.{decoding-looked, usable-test, alarm-test}
 use Rattle.pair.proofs.Looking.{table-read, table-marked, table-usable, table-kinds}
 use Rattle.pair.proofs.Ranks.{rowAt, row-rank, usable-row, fail-outranks, rank-most, rank-own}
-use Rattle.pair.proofs.sections_fit.Kinds as sections-fit-kinds
-use Rattle.pair.proofs.sections_fit.Reads as sections-fit
-use Rattle.pair.proofs.sections_fit.Statement as sections-fit-statement
-use Rattle.pair.proofs.sections_fit.Met as sections-fit-met
 use Rattle.pair.proofs.decode.Kinds as decode-kinds
 use Rattle.pair.proofs.decode.Reads as decode
 use Rattle.pair.proofs.decode.Statement as decode-statement
@@ -66,9 +63,6 @@ use Rattle.pair.proofs.mark.alarm.Met as alarm-met
 
 -- Each public function answers what its definition says, for every input. (`statement` is the contract, as the checker
 -- reads it off the source; it asks nothing of the caller. The last six are open to the crates above alone.)
-sections-fit-right : {M : Type 1} → sections-fit-statement.statement M
-sections-fit-right = sections-fit-met.met
-
 decode-right : {M : Type 1} → decode-statement.statement M
 decode-right = decode-met.met
 
@@ -201,9 +195,6 @@ rank-unshared = rank-own
 
 -- Two answers that the promise of a public function allows are equal. (`Post` is the function's `ensures`, as the checker
 -- reads it off the source.)
-sections-fit-unique : OneAnswer 0 sections-fit-kinds.ps sections-fit-kinds.r sections-fit.Post
-sections-fit-unique κs args x y s t p q = one-value p q
-
 decode-unique : OneAnswer 0 decode-kinds.ps decode-kinds.r decode.Post
 decode-unique κs args x y s t p q = one-case p q
 

@@ -4,6 +4,7 @@ use Prim.Native.Nat.{ℕ, _+_, _*_}
 use lib.Dec.{leb, eqb}
 use Rattle.basics.specs.Choice.{if_then_else_}
 use Rattle.basics.specs.First.{firstOr}
+use Rattle.basics.specs.Settings.{sectionsFit}
 use Rattle.pair.specs.Request.{requests, carries}
 use Rattle.pair.specs.Marks.{codeOf, channelOf, bridgedOf, lineBits}
 use Rattle.pair.specs.Marks.{Finding, nothing, alarmed, marked, checksWith, finding}
@@ -13,10 +14,6 @@ use Rattle.pair.specs.declared.Decoded.{Decoded}
 use Rattle.pair.specs.declared.Decoded.the-variants as decoded
 use Rattle.pair.specs.declared.Encoded.{Encoded}
 use Rattle.pair.specs.declared.Encoded.the-variants as encoded
-
--- refusal 1 is for n outside 1..14
-abbrev pub sectionsFit : ℕ → Bool
-sectionsFit n = leb 1 n && leb n 14
 
 -- what the decoder answers
 pub record Decoding : Type 0 where

@@ -7,8 +7,9 @@ use crate::table::carried;
 use crate::table::listed_in;
 use crate::table::number_for;
 use crate::table::usable_in;
+use basics::settings::sections_fit;
 ghost use Rattle.basics.specs.Answer.{Answers};
-ghost use Rattle.pair.specs.Coder.{sectionsFit, decodingTold, decodingCase, decoding, decodingLooked};
+ghost use Rattle.pair.specs.Coder.{decodingTold, decodingCase, decoding, decodingLooked};
 ghost use Rattle.pair.specs.Coder.{lineOf, encodingTold, encodingCase, encoding};
 ghost use mathlib.Core.Path.{_≡_};
 
@@ -42,12 +43,6 @@ pub struct Value {
     pub least: u8,
     pub greatest: u8,
     pub mark: u8,
-}
-
-pub fn sections_fit(n: u8) -> bool
-    ensures { λ r. ⌜ r ≡ sectionsFit n ⌝ }
-{
-    (1 <= n) & (n <= 14)
 }
 
 pub fn decode(n: u8, k1: u8, k2: u8) -> Decoded

@@ -1,9 +1,9 @@
 // The table of K1 values (02, j): what the coder's rules say of a K1, in one look.
 use crate::Value;
 ghost use Prim.Native.Nat.{_/_};
+ghost use Rattle.basics.specs.Settings.{sectionsFit};
 ghost use Rattle.pair.specs.Request.{requests, carries};
 ghost use Rattle.pair.specs.Table.{valueOf, numberFor, valueIn, listedIn, usableIn, tableOf};
-ghost use Rattle.pair.specs.Coder.{sectionsFit};
 ghost use mathlib.Core.Bool.{true};
 ghost use mathlib.Core.Path.{_≡_};
 

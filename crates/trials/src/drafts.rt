@@ -64,6 +64,11 @@ pub(crate) fn place(n: u8, mask: u16, w: u16, steps: u16) -> Entry {
     }
 }
 
+// A place past the count, which the writer does not look at: it would be refused.
+pub(crate) fn unseen() -> Entry {
+    place(0, 9, 9, 9)
+}
+
 fn still_place(i: u16) -> Entry {
     if i == 0 {
         return place(1, 0, 0, 0);
@@ -71,15 +76,22 @@ fn still_place(i: u16) -> Entry {
     if i == 1 {
         return place(14, 16383, 1, 1);
     }
-    place(255, 65535, 65535, 0)
+    place(1, 1, 65535, 0)
 }
 
+// Every n, with masks that fit it.
 fn many_place(i: u16) -> Entry {
-    place((i % 64) as u8, 1000 * (i % 64) + 7, 65535 - i % 64, i % 5)
+    let j = i % 64;
+    let k = j % 14;
+    let mask = (1000 * j + 7) >> (15 - k);
+    place((k + 1) as u8, mask, 65535 - j, j % 5)
 }
 
+// Every n, with all sections of high priority.
 fn quiet_place(i: u16) -> Entry {
-    place((64 - i % 64) as u8, i, 300, 0)
+    let k = i % 14;
+    let mask = 65535 >> (2 + k);
+    place((14 - k) as u8, mask, 300, 0)
 }
 
 // The contents by number: empty, paper, still, many, quiet, largest.
@@ -101,7 +113,7 @@ fn wide(b: u8) -> u16 {
 
 pub(crate) fn draft(kind: usize) -> Contents {
     let count = COUNTS[kind % 6];
-    let mut entries = [place(9, 9, 9, 9); 64];
+    let mut entries = [unseen(); 64];
     let mut i: u16 = 0;
     while i < 64 {
         if i < wide(count) {

@@ -10,7 +10,7 @@ use text::print_labelled;
 use text::print_list;
 use text::print_number;
 
-const FAULTS: usize = 26;
+const FAULTS: usize = 33;
 
 // What a fault sets: the byte at a place, or the length of the book.
 struct Change {
@@ -58,11 +58,18 @@ fn change_of(f: usize) -> Change {
         23 => byte(13, 4),
         24 => byte(1, 1),
         25 => length(26),
+        26 => byte(2, 0),
+        27 => byte(14, 15),
+        28 => byte(2, 255),
+        29 => byte(5, 4),
+        30 => byte(16, 128),
+        31 => byte(2, 1),
+        32 => byte(5, 3),
         _ => byte(NOWHERE, 0),
     }
 }
 
-fn set_byte(book: &mut [u8], at: usize, b: u8) {
+pub(crate) fn set_byte(book: &mut [u8], at: usize, b: u8) {
     if at < book.len() {
         book[at] = b;
     }
@@ -80,7 +87,7 @@ fn length_with(f: usize, old: usize) -> usize {
     if change.at == LENGTH { change.to } else { old }
 }
 
-fn refusal_of(book: &[u8], length: usize) -> u8 {
+pub(crate) fn refusal_of(book: &[u8], length: usize) -> u8 {
     read(front(book, length)).refusal
 }
 
@@ -123,13 +130,19 @@ fn print_pairs(book: &mut [u8]) {
     }
 }
 
-// Refusal 0 counts at 0, and 20 to 28 at 1 to 9.
+// Refusal 0 counts at 0, 20 to 28 at 1 to 9, 31 and 32 at 10 and 11.
+fn column(refusal: u8) -> usize {
+    if refusal < 20 {
+        return 0;
+    }
+    if refusal < 30 {
+        return refusal as usize - 19;
+    }
+    refusal as usize - 21
+}
+
 fn count_refusal(counts: &mut [u32], refusal: u8) {
-    let at = if refusal < 20 {
-        0
-    } else {
-        refusal as usize - 19
-    };
+    let at = column(refusal);
     if at < counts.len() {
         counts[at] = counts[at] % 65536 + 1;
     }
@@ -147,7 +160,7 @@ fn count_values(counts: &mut [u32], book: &mut [u8], place: usize) {
 }
 
 fn print_values(book: &mut [u8], place: usize) {
-    let mut counts = [0u32; 10];
+    let mut counts = [0u32; 12];
     count_values(&mut counts, book, place);
     print_number(place as u64);
     print_list(&counts);

@@ -1,10 +1,12 @@
 // Reader and writer of capture books on drawn-up cases, their answers printed: round trips, each refusal alone and two at
-// once, every value of each byte of the contents, every length, and the body of any entry.
+// once, every value of each byte of the contents, every length, settings, and the body of any entry.
 mod digest;
 mod drafts;
 mod faults;
+mod listing;
 mod parts;
 mod rounds;
+mod settings;
 mod writer;
 
 const ROOM: usize = 65600;
@@ -20,6 +22,8 @@ fn main() {
     let mut book = [0u8; ROOM];
     faults::print_faults(&mut book);
     faults::print_damage(&mut book);
+    settings::print_reader(&mut book);
     writer::print_calls(&bodies, &mut out);
+    settings::print_writer(&bodies, &mut out);
     parts::print_parts(&paper);
 }

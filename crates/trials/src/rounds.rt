@@ -6,6 +6,7 @@ use crate::drafts::draft;
 use crate::drafts::fill;
 use crate::drafts::front;
 use crate::drafts::paper_bodies;
+use crate::listing::put_list;
 use book::Contents;
 use book::Entry;
 use book::Reading;
@@ -25,16 +26,21 @@ fn size_in(answer: Writing) -> usize {
     }
 }
 
-fn refusal_in(answer: Writing) -> u8 {
+pub(crate) fn refusal_in(answer: Writing) -> u8 {
     match answer {
         Writing::Written(_) => 0,
         Writing::Refused(number) => number,
     }
 }
 
+pub(crate) fn write_list(contents: Contents, bodies: &[u8], out: &mut [u8]) -> Writing {
+    let mut list = [0u8; 769];
+    put_list(&mut list, contents);
+    write(&list, bodies, out)
+}
+
 // Refusal and bytes written, and the latter as the answer.
-pub(crate) fn print_written(contents: Contents, bodies: &[u8], out: &mut [u8]) -> usize {
-    let answer = write(contents, bodies, out);
+pub(crate) fn print_written(answer: Writing) -> usize {
     let size = size_in(answer);
     print_labelled(b" ", refusal_in(answer) as u64);
     print_labelled(b" ", size as u64);
@@ -121,7 +127,7 @@ fn print_read(book: &[u8]) -> Contents {
 fn print_trip(label: &[u8], contents: Contents, bodies: &[u8], out: &mut [u8]) -> usize {
     fill(out, 238);
     print(label);
-    let size = print_written(contents, bodies, out);
+    let size = print_written(write_list(contents, bodies, out));
     print_digest(out);
     size
 }

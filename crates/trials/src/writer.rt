@@ -2,18 +2,27 @@
 use crate::drafts::fill;
 use crate::drafts::front;
 use crate::drafts::place;
+use crate::drafts::unseen;
 use crate::rounds::print_digest;
 use crate::rounds::print_written;
+use crate::rounds::refusal_in;
+use crate::rounds::write_list;
 use book::Contents;
+use book::Writing;
 use text::print;
 use text::print_labelled;
 use text::print_number;
 
-const FAULTS: usize = 14;
+const FAULTS: usize = 20;
 
-// What the writer is handed: the count, the steps of places 0 and 1, the bytes of the bodies, the room of the output.
+// What the writer is handed: the count, n, mask and steps of places 0 and 1, the bytes of the bodies, the room of the
+// output.
 struct Call {
     pub count: u8,
+    pub n0: u8,
+    pub n1: u8,
+    pub mask0: u16,
+    pub mask1: u16,
     pub first: u16,
     pub second: u16,
     pub bodies: usize,
@@ -23,6 +32,18 @@ struct Call {
 impl Call {
     fn counting(mut self, count: u8) -> Call {
         self.count = count;
+        self
+    }
+
+    fn sized(mut self, n0: u8, n1: u8) -> Call {
+        self.n0 = n0;
+        self.n1 = n1;
+        self
+    }
+
+    fn masked(mut self, mask0: u16, mask1: u16) -> Call {
+        self.mask0 = mask0;
+        self.mask1 = mask1;
         self
     }
 
@@ -57,14 +78,20 @@ impl Call {
             11 => self.within(65600),
             12 => self.stepping(16375, 2).joining(65508).within(65534),
             13 => self.counting(0).joining(0),
+            14 => self.sized(0, self.n1),
+            15 => self.sized(self.n0, 15),
+            16 => self.masked(4, self.mask1),
+            17 => self.masked(self.mask0, 32768),
+            18 => self.sized(self.n0, 1),
+            19 => self.masked(self.mask0, 3),
             _ => self,
         }
     }
 
     fn contents(self) -> Contents {
-        let mut entries = [place(9, 9, 9, 9); 64];
-        entries[0] = place(2, 0, 3, self.first);
-        entries[1] = place(2, 0, 3, self.second);
+        let mut entries = [unseen(); 64];
+        entries[0] = place(self.n0, self.mask0, 3, self.first);
+        entries[1] = place(self.n1, self.mask1, 3, self.second);
         Contents {
             count: self.count,
             entries,
@@ -75,6 +102,10 @@ impl Call {
 fn paper_call() -> Call {
     Call {
         count: 2,
+        n0: 2,
+        n1: 2,
+        mask0: 0,
+        mask1: 0,
         first: 3,
         second: 2,
         bodies: 20,
@@ -82,10 +113,11 @@ fn paper_call() -> Call {
     }
 }
 
-fn write_within(contents: Contents, bodies: &[u8], out: &mut [u8], room: usize) {
+fn write_within(contents: Contents, bodies: &[u8], out: &mut [u8], room: usize) -> Writing {
     if room <= out.len() {
-        print_written(contents, bodies, &mut out[..room]);
+        return write_list(contents, bodies, &mut out[..room]);
     }
+    Writing::Refused(0)
 }
 
 fn print_call(f: usize, g: usize, bodies: &[u8], out: &mut [u8]) {
@@ -93,8 +125,14 @@ fn print_call(f: usize, g: usize, bodies: &[u8], out: &mut [u8]) {
     fill(out, 238);
     print_number(f as u64);
     print_labelled(b" ", g as u64);
-    write_within(call.contents(), front(bodies, call.bodies), out, call.room);
+    print_written(write_within(call.contents(), front(bodies, call.bodies), out, call.room));
     print_digest(out);
+}
+
+// The refusal of the paper's call with other settings in its last place.
+pub(crate) fn refusal_with(n: u8, mask: u16, bodies: &[u8], out: &mut [u8]) -> u8 {
+    let call = paper_call().sized(2, n).masked(0, mask);
+    refusal_in(write_within(call.contents(), front(bodies, call.bodies), out, call.room))
 }
 
 pub(crate) fn print_calls(bodies: &[u8], out: &mut [u8]) {

@@ -12,7 +12,7 @@ const PAPER: [u8; 46] = [
 /// Every field is another number, so that none can pass for its neighbour.
 const UNLIKE: [u8; 18] = [
     0x01, 0x01, //
-    0xF1, 0x00, 0x23, 0x45, 0x67, 0x89, 0x00, 0x00, 0x00, 0x0E, 0x00, 0x01, //
+    0x0D, 0x00, 0x13, 0x45, 0x67, 0x89, 0x00, 0x00, 0x00, 0x0E, 0x00, 0x01, //
     0xDE, 0xAD, 0xBE, 0xEF,
 ];
 
@@ -28,11 +28,17 @@ fn contents(entries: &[Entry]) -> Contents {
     contents
 }
 
+/// With settings that fit.
 fn entry_of_steps(steps: u16) -> Entry {
     Entry {
+        n: 1,
         steps,
         ..Entry::ZEROS
     }
+}
+
+fn with_settings(entry: Entry, (n, mask): (u8, u16)) -> Entry {
+    Entry { n, mask, ..entry }
 }
 
 fn paper_contents() -> Contents {
@@ -101,9 +107,9 @@ fn the_paper_book_is_read_and_written() {
 #[test]
 fn each_field_has_its_bytes() {
     let expected = Entry {
-        n: 0xF1,
+        n: 0x0D,
         spare: 0,
-        mask: 0x2345,
+        mask: 0x1345,
         w: 0x6789,
         offset: 14,
         steps: 1,
@@ -118,7 +124,7 @@ fn each_field_has_its_bytes() {
 fn a_book_may_be_empty_or_have_empty_bodies() {
     assert_eq!(read(&[1, 0]), Ok(Contents::ZEROS));
     assert_eq!(written(&Contents::ZEROS, &[]), [1, 0]);
-    let quiet = [0x01, 0x01, 0, 0, 0, 0, 0, 0, 0, 0, 0, 0x0E, 0, 0];
+    let quiet = [0x01, 0x01, 1, 0, 0, 0, 0, 0, 0, 0, 0, 0x0E, 0, 0];
     let read = read(&quiet).unwrap();
     assert_eq!(read.places[0].offset, 14);
     assert_eq!(body(&quiet, &read.places[0]), []);
@@ -132,7 +138,7 @@ fn all_places_may_be_taken() {
     let bodies: Vec<u8> = (0..=255).collect();
     let book = written(&contents(&entries), &bodies);
     assert_eq!(book.len(), 770 + 256);
-    assert_eq!(book[..4], [1, 64, 0, 0]);
+    assert_eq!(book[..4], [1, 64, 1, 0]);
     assert_eq!(book[8..14], [0, 0, 0x03, 0x02, 0, 1]);
     let read = read(&book).unwrap();
     assert_eq!(read.places[63].offset, 770 + 252);
@@ -143,7 +149,7 @@ fn all_places_may_be_taken() {
 #[test]
 fn the_reader_refuses_by_number() {
     let zeros = vec![0; MOST_BYTES + 1];
-    let refused: [(&[u8], u8); 17] = [
+    let refused: [(&[u8], u8); 25] = [
         (&zeros, 20),
         (&[], 21),
         (&[1], 21),
@@ -155,6 +161,14 @@ fn the_reader_refuses_by_number() {
         (&PAPER[..25], 24),
         (&paper_with(&[(3, 1)]), 25),
         (&paper_with(&[(15, 0x80)]), 25),
+        (&paper_with(&[(2, 0)]), 31),
+        (&paper_with(&[(2, 15)]), 31),
+        (&paper_with(&[(14, 0)]), 31),
+        (&paper_with(&[(14, 255)]), 31),
+        (&paper_with(&[(5, 4)]), 32),
+        (&paper_with(&[(4, 1)]), 32),
+        (&paper_with(&[(16, 0x80)]), 32),
+        (&paper_with(&[(14, 1), (17, 2)]), 32),
         (&paper_with(&[(11, 0x1B)]), 26),
         (&paper_with(&[(20, 1)]), 26),
         (&PAPER[..45], 27),
@@ -200,10 +214,14 @@ fn the_reader_refuses_in_order() {
     book[1] = 2;
     for (changes, number) in [
         (&[][..], 25),
-        (&[(3, 0)], 26),
+        (&[(3, 0)], 31),
+        (&[(2, 14)], 32),
+        (&[(4, 0x3F)], 26),
         (&[(8, 0), (9, 0), (10, 0), (11, 26)], 27),
         (&[(12, 0), (13, 3)], 25),
-        (&[(15, 0)], 26),
+        (&[(15, 0)], 31),
+        (&[(14, 1)], 32),
+        (&[(16, 0), (17, 1)], 26),
         (&[(20, 0), (21, 0), (22, 0), (23, 38)], 27),
         (&[(24, 0), (25, 2)], 28),
     ] {
@@ -224,11 +242,53 @@ fn entries_are_refused_one_after_the_other() {
         (&[(15, 1), (11, 0)], 26),
         (&[(23, 0), (13, 6)], 27),
         (&[(15, 1), (3, 1)], 25),
+        // Settings of the second, behind the last of the first; and of the first,
+        // before the first of the second.
+        (&[(14, 0), (13, 6)], 27),
+        (&[(14, 0), (11, 0)], 26),
+        (&[(16, 1), (13, 6)], 27),
+        (&[(16, 1), (11, 0)], 26),
+        (&[(5, 4), (14, 0)], 32),
+        (&[(5, 4), (15, 1)], 32),
+        (&[(2, 0), (15, 1)], 31),
+        // The last entry is looked at before what is left over.
+        (&[(14, 0), (25, 1)], 31),
+        (&[(16, 1), (25, 1)], 32),
         // A sound first body that moves the second from where it belongs.
         (&[(13, 4)], 26),
         (&[(13, 2), (25, 255)], 26),
     ] {
         assert_eq!(refusal_of(&paper_with(changes)), Some(number));
+    }
+}
+
+/// By hand from the bounds: n within 1 to 14, no bit of the mask at n or above.
+fn refusal_of_settings(n: u8, bit: Option<u8>) -> Option<u8> {
+    match (n, bit) {
+        (0 | 15.., _) => Some(31),
+        (_, Some(bit)) if bit >= n => Some(32),
+        _ => None,
+    }
+}
+
+/// Every n, with no bit of the mask and with each, in either entry: to the reader,
+/// and to the writer, which has bodies that are too long and no room as well, and
+/// comes to 30 only behind settings that fit.
+#[test]
+fn settings_are_refused_outside_their_bounds() {
+    let bits = || (0..16).map(Some).chain([None]);
+    for (n, bit) in (0..=255).flat_map(|n| bits().map(move |bit| (n, bit))) {
+        let mask: u16 = bit.map_or(0, |bit| 1 << bit);
+        let [high, low] = mask.to_be_bytes();
+        let expected = refusal_of_settings(n, bit);
+        for (entry, row) in [2, 14].into_iter().enumerate() {
+            let book = paper_with(&[(row, n), (row + 2, high), (row + 3, low)]);
+            assert_eq!(refusal_of(&book), expected, "{n} {mask} {entry}");
+            let mut contents = paper_contents();
+            contents.places[entry] = with_settings(contents.places[entry], (n, mask));
+            assert_eq!(write_refusal(&contents, &[0; 20], 46), expected);
+            assert_eq!(write_refusal(&contents, &[0; 21], 0), expected.or(Some(30)));
+        }
     }
 }
 
@@ -280,13 +340,20 @@ fn the_longest_book_is_two_bytes_short_of_the_bound() {
 /// Starts with every fault and mends one after the other.
 #[test]
 fn the_writer_refuses_in_order() {
-    let long = contents(&[entry_of_steps(16_000); 2]);
-    let miscounted = Contents {
-        count: 65,
-        ..long.clone()
-    };
-    assert_eq!(write_refusal(&miscounted, &[0], 0), Some(23));
-    assert_eq!(write_refusal(&long, &[0], 0), Some(30));
+    let mut long = contents(&[with_settings(entry_of_steps(16_000), (15, 0xFFFF)); 2]);
+    long.count = 65;
+    assert_eq!(write_refusal(&long, &[0], 0), Some(23));
+    long.count = 2;
+    for (place, settings, number) in [
+        (0, (15, 0xFFFF), 31),
+        (0, (14, 0xFFFF), 32),
+        (0, (14, 0x3FFF), 31),
+        (1, (1, 0xFFFF), 32),
+        (1, (1, 1), 30),
+    ] {
+        long.places[place] = with_settings(long.places[place], settings);
+        assert_eq!(write_refusal(&long, &[0], 0), Some(number), "{settings:?}");
+    }
     assert_eq!(write_refusal(&long, &vec![0; 128_000], 0), Some(20));
     assert_eq!(write_refusal(&paper_contents(), &[0; 20], 0), Some(29));
 }
@@ -294,7 +361,7 @@ fn the_writer_refuses_in_order() {
 #[test]
 fn the_writer_looks_at_no_more_than_it_is_given() {
     let mut given = paper_contents();
-    given.places[2..].fill(entry_of_steps(9));
+    given.places[2..].fill(with_settings(entry_of_steps(9), (0, 0xFFFF)));
     for place in &mut given.places {
         place.spare = 9;
         place.offset = u32::MAX;
@@ -344,15 +411,18 @@ impl Draws {
     fn contents(&mut self) -> Contents {
         let most = self.either(2, MOST_ENTRIES);
         let count = self.below(most + 1);
-        let entries: Vec<Entry> = (0..count)
-            .map(|_| Entry {
-                n: self.byte(),
-                mask: self.word(),
-                w: self.word(),
-                ..entry_of_steps(self.below(4) as u16)
-            })
-            .collect();
+        let entries: Vec<Entry> = (0..count).map(|_| self.entry()).collect();
         contents(&entries)
+    }
+
+    fn entry(&mut self) -> Entry {
+        let n = 1 + self.below(14) as u8;
+        Entry {
+            n,
+            mask: self.below(1 << n) as u16,
+            w: self.word(),
+            ..entry_of_steps(self.below(4) as u16)
+        }
     }
 
     fn bodies(&mut self, contents: &Contents) -> Vec<u8> {
@@ -414,6 +484,9 @@ fn a_damaged_book_is_refused_or_written_again() {
             Err(refusal) => drop(seen.insert(refusal.number())),
         }
     }
-    assert!(seen.into_iter().eq(21..=28), "damage of every kind");
-    assert!((1_000..2_000).contains(&taken), "{taken}");
+    assert!(
+        seen.into_iter().eq((21..=28).chain([31, 32])),
+        "damage of every kind"
+    );
+    assert!((700..1_100).contains(&taken), "{taken}");
 }

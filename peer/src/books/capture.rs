@@ -8,7 +8,8 @@ use crate::judge::Row;
 use crate::judge::{judge, Verdict};
 use crate::trials::contents_to_write;
 
-/// Any numbers may stand here: some captures are made to be refused.
+/// Any numbers may stand here: some captures are made for the judge to refuse. A
+/// book, though, can be bound only of those that fit (02, f).
 #[derive(Clone, Copy, Debug)]
 pub struct Settings {
     pub n: u8,
@@ -65,7 +66,7 @@ impl Capture {
     #[cfg(test)]
     pub fn judged(&self) -> Verdict {
         let Settings { n, mask, w } = self.settings;
-        judge(n, mask, w, self.rows.as_flattened())
+        judge(n, mask, w, self.rows.as_flattened()).expect("a capture that is not refused")
     }
 }
 
@@ -151,7 +152,7 @@ fn written(captures: &[Capture]) -> Vec<u8> {
         .copied()
         .collect();
     let mut book = vec![0; book_bytes(captures)];
-    book::write(&contents, &bodies, &mut book).expect("captures that a book has room for");
+    book::write(&contents, &bodies, &mut book).expect("captures that a book takes");
     book
 }
 

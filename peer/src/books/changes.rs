@@ -40,8 +40,8 @@ pub fn replaced() -> Vec<Capture> {
     changed(5, 2_000, replace)
 }
 
-/// Settings of which any one, or all, may not be those of the run. Some are
-/// refused.
+/// Settings of which any one, or all, may not be those of the run. They fit, since a
+/// book has no others (02, f); so with fewer sections bits of the mask go as well.
 pub fn resettled() -> Vec<Capture> {
     changed(6, 1_500, |draws, capture| {
         let other = runs::draw_settings(draws);
@@ -49,7 +49,10 @@ pub fn resettled() -> Vec<Capture> {
         match draws.below(4) {
             0 => settings.mask = draws.below(1 << settings.n),
             1 => settings.w = other.w,
-            2 => settings.n = draws.byte_below(17),
+            2 => {
+                settings.n = 1 + draws.byte_below(14);
+                settings.mask &= (1 << settings.n) - 1;
+            }
             _ => *settings = other,
         }
     })

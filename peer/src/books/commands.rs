@@ -99,7 +99,8 @@ mod tests {
             } else {
                 Verdict::Unexplained(1)
             };
-            assert_eq!(judge(3, 1, 2, rows.as_flattened()), expected, "{rows:02X?}");
+            let judged = judge(3, 1, 2, rows.as_flattened());
+            assert_eq!(judged, Ok(expected), "{rows:02X?}");
         }
     }
 }

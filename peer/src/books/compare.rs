@@ -12,23 +12,16 @@ use std::process::Output;
 pub enum Kind {
     Explained,
     Unexplained,
-    Refused,
     RefusedBook,
 }
 
 impl Kind {
-    pub const ALL: [Self; 4] = [
-        Self::Explained,
-        Self::Unexplained,
-        Self::Refused,
-        Self::RefusedBook,
-    ];
+    pub const ALL: [Self; 3] = [Self::Explained, Self::Unexplained, Self::RefusedBook];
 
     fn of(verdict: Verdict) -> Self {
         match verdict {
             Verdict::Explained(_) => Self::Explained,
             Verdict::Unexplained(_) => Self::Unexplained,
-            Verdict::Refused(_) => Self::Refused,
         }
     }
 }

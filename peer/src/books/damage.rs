@@ -1,8 +1,9 @@
-//! Books that are not what a writer wrote, and books of captures that the judge
-//! refuses (paper: "Numbered refusals", 1, 2 and 20 to 28).
+//! Books that are not what a writer wrote (paper: "Numbered refusals", 20 to 28;
+//! 02, f, for 31 and 32).
 
 use super::capture::{bind, Capture, Settings};
 use super::runs::{self, COMMON, LONGEST};
+use super::unfit;
 use crate::book::{self, MOST_BYTES};
 use crate::draws::Draws;
 use crate::trials::PAPER_BOOK;
@@ -10,26 +11,6 @@ use crate::trials::PAPER_BOOK;
 const SEED: u64 = 11;
 /// The captures of a book that is to be damaged.
 const CAPTURES: usize = 6;
-const BOOKS_OF_REFUSED: usize = 8;
-
-/// Settings that the judge refuses, and some just inside the bounds.
-const SETTINGS: [(u8, u16); 15] = [
-    (0, 0),
-    (1, 0),
-    (15, 0),
-    (14, 0x3FFF),
-    (255, 0),
-    (0, 0xFFFF),
-    (2, 3),
-    (2, 4),
-    (1, 2),
-    (14, 0x4000),
-    (14, 0x8000),
-    (15, 0x8000),
-    (3, 0xFFFF),
-    (3, 7),
-    (16, 0),
-];
 
 pub fn books() -> Vec<Vec<u8>> {
     let mut draws = Draws::from_seed(SEED);
@@ -39,7 +20,7 @@ pub fn books() -> Vec<Vec<u8>> {
     books.extend(with_some_values(&drawn, contents_of(&drawn)));
     books.extend(cut_and_extended(&PAPER_BOOK));
     books.extend(cut_and_extended(&drawn));
-    books.extend((0..BOOKS_OF_REFUSED).map(|_| book_of_refused(&mut draws)));
+    books.extend(unfit::books(&mut draws));
     books.extend(by_length(&mut draws));
     books.extend(without_captures());
     books
@@ -49,18 +30,6 @@ fn drawn_book(draws: &mut Draws) -> Vec<u8> {
     let captures: Vec<Capture> = (0..CAPTURES)
         .map(|steps| runs::draw_of_any_settings(draws, COMMON, steps))
         .collect();
-    bind(&captures).concat()
-}
-
-/// The settings that are refused stand on captures that have an explanation under
-/// others.
-fn book_of_refused(draws: &mut Draws) -> Vec<u8> {
-    let captures = SETTINGS.map(|(n, mask)| {
-        let mut capture = runs::draw_of_any_settings(draws, COMMON, 2);
-        let w = capture.settings.w;
-        capture.settings = Settings { n, mask, w };
-        capture
-    });
     bind(&captures).concat()
 }
 
@@ -136,8 +105,6 @@ fn without_captures() -> Vec<Vec<u8>> {
 #[cfg(test)]
 mod tests {
     use super::*;
-    use crate::judge::table::Table;
-    use crate::judge::Verdict;
     use std::collections::BTreeSet;
 
     #[test]
@@ -147,21 +114,7 @@ mod tests {
             .filter_map(|book| book::read(book).err())
             .map(book::Refusal::number)
             .collect();
-        assert!(refusals.into_iter().eq(20..=28));
-    }
-
-    /// By hand from the bounds: n within 1 to 14, no bit of the mask at n or above.
-    #[test]
-    fn captures_are_refused_beside_good_ones() {
-        let book = book_of_refused(&mut Draws::from_seed(1));
-        let Table::Judged(lines) = Table::of(&book) else {
-            panic!("the book itself is sound");
-        };
-        let refusals = lines.iter().map(|line| match line.verdict {
-            Verdict::Refused(number) => number,
-            _ => 0,
-        });
-        assert!(refusals.eq([1, 0, 1, 0, 1, 1, 0, 2, 2, 2, 2, 1, 2, 0, 1]));
+        assert!(refusals.into_iter().eq((20..=28).chain([31, 32])));
     }
 
     #[test]

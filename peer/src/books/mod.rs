@@ -15,6 +15,7 @@ mod process;
 mod report;
 pub mod runs;
 mod steps;
+mod unfit;
 mod waits;
 
 use capture::bind;
@@ -47,7 +48,6 @@ struct Job {
 
 const EXPLAINED: &[Kind] = &[Kind::Explained];
 const BOTH: &[Kind] = &[Kind::Explained, Kind::Unexplained];
-const ALL_OF_CAPTURES: &[Kind] = &[Kind::Explained, Kind::Unexplained, Kind::Refused];
 
 /// In the order in which they are reported.
 const GROUPS: [Group; 12] = [
@@ -56,7 +56,7 @@ const GROUPS: [Group; 12] = [
     group("cut", BOTH, || bind(&changes::cut())),
     group("swapped", BOTH, || bind(&changes::swapped())),
     group("replaced", BOTH, || bind(&changes::replaced())),
-    group("settings", ALL_OF_CAPTURES, || bind(&changes::resettled())),
+    group("settings", BOTH, || bind(&changes::resettled())),
     group("lockout", BOTH, || bind(&lockout::captures())),
     group("alarms", BOTH, || bind(&alarms::captures())),
     group("waits", BOTH, || bind(&waits::captures())),

@@ -39,8 +39,8 @@ impl Counts {
 
     /// The captures of refused books are not known, so they do not count.
     fn captures(&self) -> usize {
-        let [explained, unexplained, refused, _] = self.kinds;
-        explained + unexplained + refused
+        let [explained, unexplained, _] = self.kinds;
+        explained + unexplained
     }
 
     fn shows(&self) -> Vec<Kind> {
@@ -51,10 +51,10 @@ impl Counts {
     }
 
     fn write(&self, out: &mut impl Write, name: &str) -> io::Result<()> {
-        let [explained, unexplained, refused, refused_books] = self.kinds;
+        let [explained, unexplained, refused_books] = self.kinds;
         writeln!(
             out,
-            "{name:<10}{:>7}{:>10}{explained:>11}{unexplained:>13}{refused:>9}{refused_books:>15}",
+            "{name:<10}{:>7}{:>10}{explained:>11}{unexplained:>13}{refused_books:>15}",
             self.books,
             self.captures()
         )
@@ -111,7 +111,7 @@ impl<'a> Report<'a> {
         }
         writeln!(
             out,
-            "group       books  captures  explained  unexplained  refused  refused books"
+            "group       books  captures  explained  unexplained  refused books"
         )?;
         for (group, counts) in self.groups.iter().zip(&self.counts) {
             counts.write(out, group.name)?;
@@ -245,9 +245,9 @@ paper, book 1 of 3 bytes:
   01 01 01
   peer:    this
   program: that
-group       books  captures  explained  unexplained  refused  refused books
-paper           2         4          2            2        0              0
-total           2         4          2            2        0              0
+group       books  captures  explained  unexplained  refused books
+paper           2         4          2            2              0
+total           2         4          2            2              0
 4 captures, 20000 are asked for
 2 differences
 ";
@@ -261,7 +261,7 @@ total           2         4          2            2        0              0
         for (kinds, clean) in [
             (&[Kind::Explained, Kind::Unexplained][..], true),
             (&[Kind::Explained], false),
-            (&[Kind::Explained, Kind::Unexplained, Kind::Refused], false),
+            (&Kind::ALL, false),
         ] {
             let mut report = Report::new(&GROUPS, &jobs);
             let compared = Compared {

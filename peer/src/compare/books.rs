@@ -71,9 +71,12 @@ fn write_again(
     book: &[u8],
     tally: &mut Tally,
 ) {
+    // There are none in a book that is cut in its contents. That the library took it
+    // has been told as a difference, and is no reason to stop.
+    let bodies = book.get(contents_bytes(contents[0].into())..);
     let order = Order {
         contents,
-        bodies: book[contents_bytes(contents[0].into())..].to_vec(),
+        bodies: bodies.unwrap_or_default().to_vec(),
         room: book.len() + bits.place(20),
         damaged: false,
     };

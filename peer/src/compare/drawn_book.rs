@@ -3,11 +3,15 @@
 use crate::book::{contents_bytes, ENTRY_BYTES, MOST_BYTES, MOST_ENTRIES, STEP_BYTES};
 use crate::door::{Door, Peer, CONTENTS, SIZE};
 use crate::draws::Bits;
+#[cfg(test)]
+use crate::{book::Refusal, settings};
 
 pub type Contents = [u8; CONTENTS];
 
-/// Where the spare byte, the offset and the steps stand in a place.
+/// Where the fields, but for W, stand in an entry.
+const N: usize = 0;
 const SPARE: usize = 1;
+const MASK: std::ops::Range<usize> = 2..4;
 const OFFSET: std::ops::Range<usize> = 6..10;
 const STEPS: std::ops::Range<usize> = 10..12;
 
@@ -39,7 +43,7 @@ pub fn draw(bits: &mut Bits) -> (Vec<u8>, bool) {
 fn damage(bits: &mut Bits, book: &mut Vec<u8>) {
     let contents = contents_bytes(book.get(1).copied().unwrap_or_default().into());
     let length = book.len();
-    match bits.below(32) {
+    match bits.below(38) {
         0..5 => set(bits, book, 0..2),
         5..13 => set(bits, book, 2..contents),
         13..19 => set_field(bits, book),
@@ -48,7 +52,8 @@ fn damage(bits: &mut Bits, book: &mut Vec<u8>) {
         25 => book.truncate(bits.place(3)),
         26..30 => book.extend((0..=bits.below(13)).map(|number| number as u8)),
         30 => book.resize(MOST_BYTES - 3 + bits.place(8), 0),
-        _ => set(bits, book, 0..length),
+        31 => set(bits, book, 0..length),
+        _ => spoil_an_entry(bits, book),
     }
 }
 
@@ -65,10 +70,37 @@ fn set(bits: &mut Bits, book: &mut [u8], among: std::ops::Range<usize>) {
 
 /// The last byte of an offset or of the steps, or a spare byte.
 fn set_field(bits: &mut Bits, book: &mut [u8]) {
-    let count = usize::from(book.get(1).copied().unwrap_or_default());
-    let place = contents_bytes(bits.place(count.max(1)));
-    let byte = place + bits.pick(&[SPARE, OFFSET.end - 1, STEPS.end - 1]);
+    let entry = draw_entry(bits, book);
+    let byte = entry + bits.pick(&[SPARE, OFFSET.end - 1, STEPS.end - 1]);
     set(bits, book, byte..byte + 1);
+}
+
+/// Where one of the entries starts that the book says it has.
+fn draw_entry(bits: &mut Bits, book: &[u8]) -> usize {
+    let count = usize::from(book.get(1).copied().unwrap_or_default());
+    contents_bytes(bits.place(count.max(1)))
+}
+
+/// The settings of an entry, if the book is long enough for it.
+fn spoil_an_entry(bits: &mut Bits, book: &mut [u8]) {
+    let start = draw_entry(bits, book);
+    if let Some(entry) = book.get_mut(start..start + ENTRY_BYTES) {
+        spoil_settings(bits, entry);
+    }
+}
+
+/// n or the mask, mostly so that it does not fit any more (02, f).
+fn spoil_settings(bits: &mut Bits, entry: &mut [u8]) {
+    let any = bits.byte();
+    if bits.once_in(2) {
+        entry[N] = bits.pick(&[0, 15, 16, 255, any]);
+        return;
+    }
+    // At n, or anywhere.
+    let bit = bits.pick(&[entry[N] % 16, any % 16]);
+    let [high, low] = (1u16 << bit).to_be_bytes();
+    entry[MASK.start] |= high;
+    entry[MASK.start + 1] |= low;
 }
 
 pub fn draw_order(bits: &mut Bits) -> Order {
@@ -84,7 +116,7 @@ pub fn draw_order(bits: &mut Bits) -> Order {
 
 fn damage_order(bits: &mut Bits, order: &mut Order) {
     let length = order.bodies.len();
-    match bits.below(16) {
+    match bits.below(21) {
         0..3 => order.contents[0] = bits.byte(),
         3 => order.contents[0] = bits.pick(&[63, 64, 65]),
         4 => order.bodies.truncate(bits.place(length + 1)),
@@ -97,8 +129,17 @@ fn damage_order(bits: &mut Bits, order: &mut Order) {
         7..9 => outgrow(bits, order),
         9..12 => order.room = bits.place(order.room + 1),
         12..15 => order.room = order.room.saturating_sub(1),
-        _ => order.room = 0,
+        15 => order.room = 0,
+        _ => spoil_a_place(bits, &mut order.contents),
     }
+}
+
+/// One that counts, or any: those past the count the writer does not look at.
+fn spoil_a_place(bits: &mut Bits, contents: &mut Contents) {
+    let counted = MOST_ENTRIES.min(contents[0].into()).max(1);
+    let among = bits.pick(&[counted, counted, MOST_ENTRIES]);
+    let place = bits.place(among);
+    spoil_settings(bits, place_mut(contents, place));
 }
 
 /// Steps and bodies that agree with each other and make a book about as long as
@@ -111,13 +152,15 @@ fn outgrow(bits: &mut Bits, order: &mut Order) {
     for place in 0..count {
         let steps = total / count + usize::from(place < total % count);
         set_steps(&mut order.contents, place, steps as u16);
+        settle(bits, &mut order.contents, place);
     }
     order.bodies = bits.bytes(total * STEP_BYTES);
     order.room = bits.pick(&[0, MOST_BYTES, contents_bytes(count) + order.bodies.len()]);
 }
 
 /// Contents that agree with the bodies, and room for the book. All that the writer
-/// does not look at is drawn as well.
+/// does not look at is drawn as well; half of the time the settings past the count
+/// are such that fit, so that with a greater count they are not what is refused.
 fn draw_sound(bits: &mut Bits) -> Order {
     let mut contents: Contents = bits.array();
     let count = match bits.below(8) {
@@ -126,6 +169,10 @@ fn draw_sound(bits: &mut Bits) -> Order {
         _ => bits.place(6),
     };
     contents[0] = count as u8;
+    let settled = bits.pick(&[count, MOST_ENTRIES]);
+    for place in 0..settled {
+        settle(bits, &mut contents, place);
+    }
     let most = if bits.once_in(40) { 200 } else { 6 };
     let mut total = 0;
     for place in 0..count {
@@ -143,9 +190,22 @@ fn draw_sound(bits: &mut Bits) -> Order {
     }
 }
 
+fn place_mut(contents: &mut Contents, place: usize) -> &mut [u8] {
+    let start = 1 + ENTRY_BYTES * place;
+    &mut contents[start..start + ENTRY_BYTES]
+}
+
 fn set_steps(contents: &mut Contents, place: usize, steps: u16) {
-    let row = 1 + ENTRY_BYTES * place;
-    contents[row + STEPS.start..row + STEPS.end].copy_from_slice(&steps.to_be_bytes());
+    place_mut(contents, place)[STEPS].copy_from_slice(&steps.to_be_bytes());
+}
+
+/// Gives a place settings that fit.
+fn settle(bits: &mut Bits, contents: &mut Contents, place: usize) {
+    let n = 1 + bits.byte_below(14);
+    let mask = bits.draw() as u16 & ((1 << n) - 1);
+    let entry = place_mut(contents, place);
+    entry[N] = n;
+    entry[MASK].copy_from_slice(&mask.to_be_bytes());
 }
 
 /// Whether both have the same count and, up to it, the same n, mask, W and steps.
@@ -160,6 +220,21 @@ pub fn same_fields(first: &Contents, second: &Contents) -> bool {
         seen
     };
     fields(first) == fields(second)
+}
+
+/// Makes all settings fit. Answers the refusal of the first that did not.
+#[cfg(test)]
+pub fn mend(entries: &mut [u8]) -> Option<u8> {
+    let mut first = None;
+    for entry in entries.chunks_exact_mut(ENTRY_BYTES) {
+        let mask = u16::from_be_bytes([entry[MASK.start], entry[MASK.start + 1]]);
+        if let Err(unfit) = settings::check(entry[N], mask) {
+            first = first.or(Some(Refusal::from(unfit).number()));
+            entry[N] = 1;
+            entry[MASK].fill(0);
+        }
+    }
+    first
 }
 
 #[cfg(test)]
@@ -180,7 +255,7 @@ mod tests {
             sound += usize::from(!damaged);
             refusals.extend(read.err().map(book::Refusal::number));
         }
-        assert!(refusals.into_iter().eq(20..=28));
+        assert!(refusals.into_iter().eq((20..=28).chain([31, 32])));
         assert!((1_300..1_700).contains(&sound), "{sound}");
     }
 
@@ -197,8 +272,68 @@ mod tests {
             sound += usize::from(!order.damaged);
             refusals.insert(refusal);
         }
-        assert!(refusals.into_iter().eq([0, 20, 23, 29, 30]));
+        assert!(refusals.into_iter().eq([0, 20, 23, 29, 30, 31, 32]));
         assert!((900..1_100).contains(&sound), "{sound}");
+    }
+
+    /// The refusals of books with unfit settings, before those are mended and after.
+    #[test]
+    fn books_have_unfit_settings_alone_and_with_every_other_fault() {
+        let mut bits = Bits::from_seeds(1, 4);
+        let mut refusals = BTreeSet::new();
+        for _ in 0..40_000 {
+            let (mut book, _) = draw(&mut bits);
+            let before = refusal_of(&book);
+            let count = book.get(1).copied().unwrap_or_default().into();
+            let contents = contents_bytes(count).min(book.len());
+            if contents > 2 && mend(&mut book[2..contents]).is_some() {
+                refusals.insert((before, refusal_of(&book)));
+            }
+        }
+        let first = [20, 22, 23, 24, 25, 26, 27].map(|refusal| (refusal, refusal));
+        let second = [31, 32].map(|refusal| [0, 25, 26, 27, 28].map(|other| (refusal, other)));
+        let expected = first.iter().chain(second.as_flattened());
+        assert!(refusals.iter().eq(expected), "{refusals:?}");
+    }
+
+    fn refusal_of(book: &[u8]) -> u8 {
+        Peer.read(book, &mut [0; CONTENTS])
+    }
+
+    #[test]
+    fn orders_have_unfit_settings_alone_and_with_every_other_fault() {
+        let mut bits = Bits::from_seeds(1, 5);
+        let mut refusals = BTreeSet::new();
+        for _ in 0..40_000 {
+            let mut order = draw_order(&mut bits);
+            let before = refusal_of_order(&order);
+            let counted = CONTENTS.min(1 + ENTRY_BYTES * usize::from(order.contents[0]));
+            if mend(&mut order.contents[1..counted]).is_some() {
+                refusals.insert((before, refusal_of_order(&order)));
+            }
+        }
+        let second = [31, 32].map(|refusal| [0, 20, 29, 30].map(|other| (refusal, other)));
+        let expected = [(23, 23)].iter().chain(second.as_flattened());
+        assert!(refusals.iter().eq(expected), "{refusals:?}");
+    }
+
+    fn refusal_of_order(order: &Order) -> u8 {
+        let mut out = vec![0; order.room];
+        Peer.write(&order.contents, &order.bodies, &mut out, &mut [0; SIZE])
+    }
+
+    /// What the writer does not look at would often be refused, and often not.
+    #[test]
+    fn places_past_the_count_have_settings_of_both_sorts() {
+        let mut bits = Bits::from_seeds(1, 6);
+        let mut unfit = 0;
+        for _ in 0..1_000 {
+            let mut contents = draw_sound(&mut bits).contents;
+            let counted = 1 + ENTRY_BYTES * usize::from(contents[0]);
+            assert_eq!(mend(&mut contents[1..counted]), None);
+            unfit += usize::from(mend(&mut contents[counted..]).is_some());
+        }
+        assert!((350..550).contains(&unfit), "{unfit}");
     }
 
     #[test]

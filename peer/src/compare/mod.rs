@@ -102,7 +102,7 @@ const SUBJECTS: [Subject; 10] = [
     Subject {
         name: "read, and written again",
         least: 100_000,
-        refusals: &[0, 20, 21, 22, 23, 24, 25, 26, 27, 28],
+        refusals: &[0, 20, 21, 22, 23, 24, 25, 26, 27, 28, 31, 32],
         kinds: &books::READ_KINDS,
         parts: books::PARTS,
         compare: books::readings,
@@ -110,7 +110,7 @@ const SUBJECTS: [Subject; 10] = [
     Subject {
         name: "write, and read again",
         least: 100_000,
-        refusals: &[0, 20, 23, 29, 30],
+        refusals: &[0, 20, 23, 29, 30, 31, 32],
         kinds: &books::WRITE_KINDS,
         parts: books::PARTS,
         compare: books::writings,

@@ -6,8 +6,8 @@ use std::fmt::Write;
 use std::hint::black_box;
 
 /// One more than the greatest refusal.
-pub const REFUSALS: usize = 31;
-pub const MOST_KINDS: usize = 17;
+const REFUSALS: usize = 33;
+const MOST_KINDS: usize = 17;
 /// Differences of one part that are told in full.
 const MOST_TOLD: usize = 3;
 /// Bytes of a part of memory that are told.
@@ -47,7 +47,7 @@ pub fn both<M: Memory>(
 }
 
 /// What a number of calls came to.
-#[derive(Clone, Default)]
+#[derive(Clone)]
 pub struct Tally {
     pub calls: u64,
     /// By what this reading answers.
@@ -56,6 +56,19 @@ pub struct Tally {
     pub kinds: [u64; MOST_KINDS],
     pub differences: u64,
     pub told: Vec<String>,
+}
+
+/// In full, because only shorter arrays than that of the refusals have a default.
+impl Default for Tally {
+    fn default() -> Self {
+        Self {
+            calls: 0,
+            refusals: [0; REFUSALS],
+            kinds: [0; MOST_KINDS],
+            differences: 0,
+            told: Vec::new(),
+        }
+    }
 }
 
 impl Tally {

@@ -1,11 +1,13 @@
+mod books;
+
 use super::*;
 use crate::book::STEP_BYTES;
 use crate::books::pairs::unheard;
 use crate::door::{Peer, CONTENTS, DECODED, ENCODED, K1, RECORD, SIZE, STEP, VERDICT};
 use std::io::Write;
 
-/// This reading in the place of the library, with one function that is wrong, or with
-/// no notion of alarms.
+/// This reading in the place of the library, with one function that is wrong, with no
+/// notion of alarms, or with another way with books.
 struct Fake {
     wrong: &'static str,
 }
@@ -94,7 +96,7 @@ impl Door for Fake {
     }
 
     fn read(&self, book: &[u8], out: &mut [u8; CONTENTS]) -> u8 {
-        let refusal = Peer.read(book, out);
+        let refusal = books::read(self.wrong, book, out);
         self.spoil("read", out);
         refusal
     }
@@ -106,7 +108,7 @@ impl Door for Fake {
         out: &mut [u8],
         size: &mut [u8; SIZE],
     ) -> u8 {
-        let refusal = Peer.write(contents, bodies, out, size);
+        let refusal = books::write(self.wrong, contents, bodies, out, size);
         // Behind the book, where there is more room: those bytes are to stay.
         self.spoil("write", out);
         refusal

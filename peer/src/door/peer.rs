@@ -167,11 +167,11 @@ fn answer_bytes(answer: &Answer) -> [u8; STEP] {
 
 /// The refusal, and what stands in the output. A capture has at most 16,384
 /// steps, so the number has room.
-pub fn verdict_bytes(verdict: Verdict) -> (u8, [u8; VERDICT]) {
+pub fn verdict_bytes(verdict: Result<Verdict, u8>) -> (u8, [u8; VERDICT]) {
     let (refusal, kind, number) = match verdict {
-        Verdict::Explained(steps) => (0, 1, steps),
-        Verdict::Unexplained(step) => (0, 2, step),
-        Verdict::Refused(number) => (number, 0, 0),
+        Ok(Verdict::Explained(steps)) => (0, 1, steps),
+        Ok(Verdict::Unexplained(step)) => (0, 2, step),
+        Err(number) => (number, 0, 0),
     };
     let [high, low] = (number as u16).to_be_bytes();
     (refusal, [kind, high, low])

@@ -157,6 +157,24 @@ fn contents_stand_behind_their_count_as_in_the_book() {
     assert_eq!(contents, [0; CONTENTS]);
 }
 
+/// In the last entry, behind a good one (02, f).
+#[test]
+fn a_book_with_unfit_settings_is_neither_read_nor_written() {
+    for (n, mask, refusal) in [(0, 0, 31), (15, 0x80, 31), (14, 0x40, 32), (1, 1, 32)] {
+        let mut book = PAPER_BOOK;
+        book[14] = n;
+        book[16] = mask;
+        let mut read = [FILL; CONTENTS];
+        assert_eq!(Peer.read(&book, &mut read), refusal);
+        assert_eq!(read, [0; CONTENTS]);
+        let mut contents = [FILL; CONTENTS];
+        contents[..25].copy_from_slice(&book[1..26]);
+        let (mut out, mut size) = ([FILL; 50], [FILL; SIZE]);
+        let refused = Peer.write(&contents, &book[26..], &mut out, &mut size);
+        assert_eq!((refused, out, size), (refusal, [FILL; 50], [0; SIZE]));
+    }
+}
+
 /// The spare and offset bytes, and the places past the count, are as they may be.
 #[test]
 fn a_book_is_written_from_its_contents() {

@@ -60,11 +60,10 @@ const fn worth(code: u8, channel: u8) -> u8 {
     rank << 4 | (0b1111 - channel)
 }
 
-pub fn judge(n: u8, mask: u16, wait: u16, capture: &[u8]) -> Verdict {
-    match admit(n, mask, wait, capture) {
-        Ok((start, rows)) => scan(start, rows),
-        Err(number) => Verdict::Refused(number),
-    }
+/// The verdict on a capture, or the paper's number for its refusal.
+pub fn judge(n: u8, mask: u16, wait: u16, capture: &[u8]) -> Result<Verdict, u8> {
+    let (start, rows) = admit(n, mask, wait, capture)?;
+    Ok(scan(start, rows))
 }
 
 fn scan(start: Record, rows: &[Row]) -> Verdict {

@@ -12,7 +12,9 @@ pub enum Table {
     Refused(u8),
 }
 
-/// What is printed of one capture, besides its number.
+/// What is printed of one capture, besides its number. The paper has words for one
+/// that the judge refuses, but no book that is read comes by them any more: its
+/// settings fit (02, f), it is whole steps, and it is shorter than its book.
 pub struct Line {
     pub n: u8,
     pub steps: u16,
@@ -20,14 +22,16 @@ pub struct Line {
 }
 
 impl Line {
+    /// The entry is one that was read from that book.
     fn of(book: &[u8], entry: &Entry) -> Self {
         let Entry {
             n, mask, w, steps, ..
         } = *entry;
+        let judged = judge(n, mask, w, book::body(book, entry));
         Self {
             n,
             steps,
-            verdict: judge(n, mask, w, book::body(book, entry)),
+            verdict: judged.expect("a capture that was read is not refused"),
         }
     }
 }
@@ -63,7 +67,6 @@ impl Display for Line {
         let (word, number) = match self.verdict {
             Verdict::Explained(steps) => ("explained", steps),
             Verdict::Unexplained(step) => ("unexplained", step),
-            Verdict::Refused(number) => ("refused", usize::from(number)),
         };
         write!(f, "{} {} {word} {number}", self.n, self.steps)
     }
@@ -98,19 +101,50 @@ capture sections steps verdict at
         assert_eq!(printed(&PAPER_BOOK), expected);
     }
 
+    /// In either entry, with what is good in the other (02, f).
     #[test]
-    fn a_refused_capture_stands_beside_the_others() {
-        let mut book = PAPER_BOOK;
-        book[2] = 0;
-        let expected = "\
+    fn bad_settings_stop_the_book() {
+        for entry in [2, 14] {
+            for (n, mask, refusal) in [(0, 0, 31), (15, 4, 31), (1, 2, 32), (2, 4, 32)] {
+                let mut book = PAPER_BOOK;
+                book[entry] = n;
+                book[entry + 3] = mask;
+                assert_eq!(printed(&book), format!("refused {refusal}\n"));
+            }
+        }
+    }
+
+    /// What the first capture has of section 2 is unknown to a group of one, and
+    /// coded otherwise where that section is of high priority.
+    #[test]
+    fn settings_at_their_bounds_are_judged() {
+        for (n, mask, verdict) in [
+            (1, 1, "unexplained 0"),
+            (2, 1, "explained 3"),
+            (2, 3, "unexplained 0"),
+            (14, 1, "explained 3"),
+        ] {
+            let mut book = PAPER_BOOK;
+            book[2] = n;
+            book[5] = mask;
+            let expected = format!(
+                "\
 capture sections steps verdict at
-0 0 3 refused 1
+0 {n} 3 {verdict}
 1 2 2 unexplained 1
-";
+"
+            );
+            assert_eq!(printed(&book), expected);
+        }
+    }
+
+    /// As long as a capture in a book can be, which is short of refusal 9.
+    #[test]
+    fn the_longest_capture_is_judged() {
+        let mut book = vec![1, 1, 1, 0, 0, 0, 0, 3, 0, 0, 0, 14, 0x3F, 0xFC];
+        book.extend([0x00, 0x08, 0x00, 0x08].repeat(16_380));
+        let expected = "capture sections steps verdict at\n0 1 16380 explained 16380\n";
         assert_eq!(printed(&book), expected);
-        book[2] = 1;
-        book[5] = 2;
-        assert!(printed(&book).contains("\n0 1 3 refused 2\n"));
     }
 
     #[test]

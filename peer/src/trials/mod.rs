@@ -5,6 +5,7 @@ mod bodies;
 mod digest;
 mod reader;
 mod rounds;
+mod settings;
 mod writer;
 
 use crate::block::Block;
@@ -13,13 +14,15 @@ use std::fmt::{self, Display, Formatter};
 use std::io::{self, Write};
 
 pub fn write<W: Write>(out: &mut W) -> io::Result<()> {
-    let blocks: [Block<W>; 7] = [
+    let blocks: [Block<W>; 9] = [
         rounds::write,
         reader::write_alone,
         reader::write_pairs,
         reader::write_by_byte,
         reader::write_by_length,
+        settings::write_read,
         writer::write,
+        settings::write_written,
         bodies::write,
     ];
     blocks.into_iter().try_for_each(|block| block(out))
@@ -103,12 +106,13 @@ fn refusal_number<T>(answer: &Result<T, Refusal>) -> u8 {
 }
 
 /// Contents to be written, of entries with the given n, mask, W and steps. All
-/// that the writer must not look at holds numbers it would be caught with.
+/// that the writer must not look at holds numbers it would be caught with: the
+/// settings of places past the count would be refused (paper: 02, f).
 pub(crate) fn contents_to_write(
     entries: impl IntoIterator<Item = (u8, u16, u16, u16)>,
 ) -> Contents {
     const UNSEEN: Entry = Entry {
-        n: 9,
+        n: 0,
         spare: 9,
         mask: 9,
         w: 9,
@@ -160,11 +164,45 @@ mod tests {
         assert!(text.lines().all(is_plain));
         // Six rounds with the lines of their 0, 2, 3, 64, 64 and 1 entries.
         let rounds = 6 * 4 + 134;
-        let reader = (1 + 26) + (1 + 26) + (1 + 26) + 2;
-        assert_eq!(
-            text.lines().count(),
-            rounds + reader + (1 + 14 * 14) + (1 + 12)
-        );
+        let settings = 1 + 17;
+        let reader = (1 + 33) + (1 + 33) + (1 + 26) + 2 + settings;
+        let writer = (1 + 20 * 20) + settings;
+        assert_eq!(text.lines().count(), rounds + reader + writer + (1 + 12));
+    }
+
+    #[test]
+    fn blocks_stand_in_their_order() {
+        let text = printed(write);
+        let is_head = |line: &&str| line.starts_with(char::is_alphabetic);
+        let is_of_a_round = |line: &&str| {
+            let word = line.split(' ').next();
+            word.is_some_and(|word| ["round", "write", "read", "again"].contains(&word))
+        };
+        let heads = text.lines().filter(is_head);
+        let heads: Vec<&str> = heads.filter(|line| !is_of_a_round(line)).collect();
+        let expected = [
+            "reader alone",
+            "reader pairs",
+            "reader bytes",
+            "reader lengths",
+            "reader settings",
+            "writer",
+            "writer settings",
+            "bodies",
+        ];
+        assert_eq!(heads, expected);
+    }
+
+    /// Were they seen, it would be by several refusals.
+    #[test]
+    fn the_writer_is_caught_with_what_it_must_not_look_at() {
+        let mut contents = paper_contents();
+        let unseen = contents.places[2];
+        assert_eq!((unseen.n, unseen.spare, unseen.mask), (0, 9, 9));
+        assert_eq!((unseen.w, unseen.offset, unseen.steps), (9, 12_345_678, 9));
+        contents.count = 3;
+        let writing = Writing::of(&contents, &PAPER_BOOK[26..], BUFFER_BYTES);
+        assert_eq!(writing.refusal, 31);
     }
 
     #[test]

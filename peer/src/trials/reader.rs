@@ -1,5 +1,5 @@
 //! Which refusal a book gets from the reader (paper: "Numbered refusals", 20 to
-//! 28, and the orders below the table).
+//! 28, and the orders below the table; 02, f, for 31 and 32).
 
 use super::{Reading, BUFFER_BYTES, PAPER_BOOK};
 use std::io::{self, Write};
@@ -13,8 +13,9 @@ enum Fault {
 }
 
 /// Those of one refusal stand together, in the order of their numbers; behind
-/// them a few more.
-const FAULTS: [Fault; 26] = [
+/// them a few more; then those of settings, of which the last two are faults only
+/// together (02, f).
+const FAULTS: [Fault; 33] = [
     Fault::Nothing,
     Fault::Length(65_537),
     Fault::Length(1),
@@ -41,6 +42,13 @@ const FAULTS: [Fault; 26] = [
     Fault::Byte(13, 4),
     Fault::Byte(1, 1),
     Fault::Length(26),
+    Fault::Byte(2, 0),
+    Fault::Byte(14, 15),
+    Fault::Byte(2, 255),
+    Fault::Byte(5, 4),
+    Fault::Byte(16, 128),
+    Fault::Byte(2, 1),
+    Fault::Byte(5, 3),
 ];
 
 /// The paper's book with zeros behind it, to put faults into.
@@ -96,13 +104,12 @@ pub(super) fn write_pairs(out: &mut impl Write) -> io::Result<()> {
     Ok(())
 }
 
-/// How many books get each answer the reader has.
+/// The answers that the reader has: 0 for a book that it takes, and its refusals.
+const ANSWERS: [u8; 12] = [0, 20, 21, 22, 23, 24, 25, 26, 27, 28, 31, 32];
+
+/// How many books get each of the answers.
 #[derive(Default)]
-struct Counts {
-    taken: u32,
-    /// From refusal 20 on.
-    refused: [u32; 9],
-}
+struct Counts([u32; ANSWERS.len()]);
 
 impl Counts {
     fn over_all_values(place: usize) -> Self {
@@ -116,9 +123,8 @@ impl Counts {
     }
 
     fn add(&mut self, refusal: u8) {
-        match refusal.checked_sub(20) {
-            None => self.taken += 1,
-            Some(past) => self.refused[usize::from(past)] += 1,
+        for (count, answer) in self.0.iter_mut().zip(ANSWERS) {
+            *count += u32::from(answer == refusal);
         }
     }
 }
@@ -128,10 +134,10 @@ impl Counts {
 pub(super) fn write_by_byte(out: &mut impl Write) -> io::Result<()> {
     writeln!(out, "reader bytes")?;
     for place in 0..26 {
-        let counts = Counts::over_all_values(place);
-        write!(out, "{place} {}", counts.taken)?;
-        for refused in counts.refused {
-            write!(out, " {refused}")?;
+        let Counts(counts) = Counts::over_all_values(place);
+        write!(out, "{place}")?;
+        for count in counts {
+            write!(out, " {count}")?;
         }
         writeln!(out)?;
     }
@@ -153,9 +159,9 @@ mod tests {
     use crate::block::printed;
 
     /// By hand from the wording of the refusals.
-    const REFUSALS: [u8; 26] = [
+    const REFUSALS: [u8; 33] = [
         0, 20, 21, 21, 22, 22, 23, 23, 24, 24, 25, 25, 26, 26, 26, 26, 27, 27, 27, 27, 28, 28, 28,
-        26, 26, 27,
+        26, 26, 27, 31, 31, 31, 32, 32, 0, 0,
     ];
 
     #[test]
@@ -210,7 +216,74 @@ mod tests {
             (11, 25, 27),
             (9, 22, 26),
         ];
-        for (first, second, refusal) in pairs {
+        assert_in_order(&pairs);
+    }
+
+    /// 31 and 32 come behind 25 and before 26 and 27 (02, f).
+    #[test]
+    fn settings_have_their_place_in_an_entry() {
+        let pairs = [
+            // Before the entries.
+            (1, 26, 20),
+            (2, 26, 21),
+            (4, 26, 22),
+            (6, 27, 23),
+            (8, 27, 24),
+            (9, 29, 24),
+            // In it, be it the first or the second.
+            (10, 26, 25),
+            (10, 29, 25),
+            (11, 27, 25),
+            (11, 30, 25),
+            (26, 29, 31),
+            (28, 29, 31),
+            (27, 30, 31),
+            (26, 12, 31),
+            (29, 12, 32),
+            (27, 15, 31),
+            (30, 15, 32),
+            (26, 16, 31),
+            (29, 16, 32),
+            (27, 17, 31),
+            (30, 18, 32),
+            // No faults but together.
+            (31, 32, 32),
+            (31, 29, 32),
+            (31, 27, 31),
+            (32, 26, 31),
+            (32, 12, 26),
+        ];
+        assert_in_order(&pairs);
+    }
+
+    /// All of the first comes before what is wrong with the second, and 28 last.
+    #[test]
+    fn settings_have_their_place_among_the_entries() {
+        let pairs = [
+            (27, 10, 25),
+            (27, 12, 26),
+            (30, 13, 26),
+            (27, 16, 27),
+            (30, 16, 27),
+            (26, 27, 31),
+            (29, 27, 32),
+            (26, 30, 31),
+            (29, 11, 32),
+            (26, 11, 31),
+            // With bytes too many or too few, one entry fewer, and a longer first body.
+            (27, 20, 31),
+            (30, 21, 32),
+            (29, 22, 32),
+            (30, 19, 32),
+            (26, 24, 31),
+            (27, 24, 26),
+            (30, 23, 32),
+        ];
+        assert_in_order(&pairs);
+    }
+
+    fn assert_in_order(pairs: &[(usize, usize, u8)]) {
+        for &(first, second, refusal) in pairs {
             // No two of these set the same, so which is put in first is no matter.
             assert_eq!(refusal_of(first, second), refusal, "{first} {second}");
             assert_eq!(refusal_of(second, first), refusal, "{second} {first}");
@@ -224,6 +297,10 @@ mod tests {
         assert_eq!(refusal_of(20, 1), 20);
         assert_eq!(refusal_of(6, 24), 26);
         assert_eq!(refusal_of(24, 6), 23);
+        assert_eq!(refusal_of(26, 31), 0);
+        assert_eq!(refusal_of(31, 28), 31);
+        assert_eq!(refusal_of(29, 32), 0);
+        assert_eq!(refusal_of(32, 29), 32);
     }
 
     #[test]
@@ -231,17 +308,31 @@ mod tests {
         let text = printed(write_by_byte);
         let lines: Vec<&str> = text.lines().collect();
         for (place, expected) in [
-            (0, "0 1 0 0 255 0 0 0 0 0 0"),
+            (0, "0 1 0 0 255 0 0 0 0 0 0 0 0"),
             // Counts 65 to 255, then 4 to 64, then 1 and 3, then 0.
-            (1, "1 1 0 0 0 191 61 0 2 0 1"),
-            (2, "2 256 0 0 0 0 0 0 0 0 0"),
-            (3, "3 1 0 0 0 0 0 255 0 0 0"),
-            (8, "8 1 0 0 0 0 0 0 255 0 0"),
-            (13, "13 1 0 0 0 0 0 0 5 250 0"),
-            (24, "24 1 0 0 0 0 0 0 0 255 0"),
-            (25, "25 1 0 0 0 0 0 0 0 253 2"),
+            (1, "1 1 0 0 0 191 61 0 2 0 1 0 0"),
+            // Of n, 1 to 14 are good. Of the mask, what has the lower two bits alone.
+            (2, "2 14 0 0 0 0 0 0 0 0 0 242 0"),
+            (3, "3 1 0 0 0 0 0 255 0 0 0 0 0"),
+            (4, "4 1 0 0 0 0 0 0 0 0 0 0 255"),
+            (5, "5 4 0 0 0 0 0 0 0 0 0 0 252"),
+            (6, "6 256 0 0 0 0 0 0 0 0 0 0 0"),
+            (8, "8 1 0 0 0 0 0 0 255 0 0 0 0"),
+            (13, "13 1 0 0 0 0 0 0 5 250 0 0 0"),
+            (14, "14 14 0 0 0 0 0 0 0 0 0 242 0"),
+            (17, "17 4 0 0 0 0 0 0 0 0 0 0 252"),
+            (24, "24 1 0 0 0 0 0 0 0 255 0 0 0"),
+            (25, "25 1 0 0 0 0 0 0 0 253 2 0 0"),
         ] {
             assert_eq!(lines[1 + place], expected);
+        }
+    }
+
+    #[test]
+    fn every_answer_is_counted() {
+        for place in 0..26 {
+            let Counts(counts) = Counts::over_all_values(place);
+            assert_eq!(counts.iter().sum::<u32>(), 256);
         }
     }
 

@@ -33,11 +33,13 @@ impl Round {
 }
 
 fn rounds() -> [Round; 6] {
-    let many = (0..64u8).map(|i| {
-        let wide = u16::from(i);
-        (i, 1_000 * wide + 7, 65_535 - wide, wide % 5)
+    // Each mask is shifted until as many bits are left as there are sections: some
+    // of them set, then all.
+    let many = (0..64u16).map(|i| {
+        let mask = (1_000 * i + 7) >> (15 - i % 14);
+        ((i % 14 + 1) as u8, mask, 65_535 - i, i % 5)
     });
-    let quiet = (0..64u8).map(|i| (64 - i, u16::from(i), 300, 0));
+    let quiet = (0..64u16).map(|i| ((14 - i % 14) as u8, 65_535 >> (2 + i % 14), 300, 0));
     [
         Round::with_rule_bytes("empty", []),
         Round {
@@ -47,7 +49,7 @@ fn rounds() -> [Round; 6] {
         },
         Round::with_rule_bytes(
             "still",
-            [(1, 0, 0, 0), (14, 16_383, 1, 1), (255, 65_535, 65_535, 0)],
+            [(1, 0, 0, 0), (14, 16_383, 1, 1), (1, 1, 65_535, 0)],
         ),
         Round::with_rule_bytes("many", many),
         Round::with_rule_bytes("quiet", quiet),
@@ -131,9 +133,16 @@ mod tests {
             "2 0 0 3 38 2 8 ",
             "1 0 0 0 38 0 0 0\n",
             "14 0 16383 1 38 1 4 ",
-            "255 0 65535 65535 42 0 0 0\n",
-            "63 0 63007 65472 1262 3 12 ",
-            "1 0 63 300 770 0 0 0\n",
+            "1 0 1 65535 42 0 0 0\n",
+            // Of the many: the first; 13, with 14 sections and 13,007 >> 2; and 63,
+            // with 8 sections and 63,007 >> 8.
+            "1 0 0 65535 770 0 0 0\n",
+            "14 0 3251 65522 862 3 12 ",
+            "8 0 246 65472 1262 3 12 ",
+            // Of the quiet ones: 0, 13, and 63 with 7 sections.
+            "14 0 16383 300 770 0 0 0\n",
+            "1 0 1 300 770 0 0 0\n",
+            "7 0 127 300 770 0 0 0\n",
             "14 0 10922 300 14 16380 65520 ",
         ] {
             assert!(text.contains(&format!("\n{front}")), "{front}");

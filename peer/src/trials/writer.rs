@@ -1,5 +1,6 @@
 //! What the writer refuses and what it leaves in the output (paper: "Numbered
-//! refusals", 20, 23, 29 and 30, and the orders below the table).
+//! refusals", 20, 23, 29 and 30, and the orders below the table; 02, f, for 31 and
+//! 32).
 
 use super::{paper_contents, rule_bytes, Writing, BUFFER_BYTES};
 use crate::book::Contents;
@@ -12,7 +13,8 @@ struct Tried {
     room: usize,
 }
 
-const FAULTS: [fn(&mut Tried); 14] = [
+/// The last two are no faults, but together one of the mask.
+const FAULTS: [fn(&mut Tried); 20] = [
     |_| {},
     |tried| tried.contents.count = 65,
     |tried| tried.contents.count = 255,
@@ -38,6 +40,12 @@ const FAULTS: [fn(&mut Tried); 14] = [
         tried.contents.count = 0;
         tried.body_bytes = 0;
     },
+    |tried| tried.contents.places[0].n = 0,
+    |tried| tried.contents.places[1].n = 15,
+    |tried| tried.contents.places[0].mask = 4,
+    |tried| tried.contents.places[1].mask = 32_768,
+    |tried| tried.contents.places[1].n = 1,
+    |tried| tried.contents.places[1].mask = 3,
 ];
 
 impl Tried {
@@ -103,7 +111,14 @@ mod tests {
             (0, 46),
             (0, 65_534),
             (0, 2),
+            (31, 0),
+            (31, 0),
+            (32, 0),
+            (32, 0),
+            (0, 46),
+            (0, 46),
         ];
+        assert_eq!(expected.len(), FAULTS.len());
         for (fault, expected) in expected.into_iter().enumerate() {
             assert_eq!(answer_of(fault, 0), expected, "{fault}");
             assert_eq!(answer_of(0, fault), expected, "{fault}");
@@ -129,6 +144,51 @@ mod tests {
         }
     }
 
+    /// Settings come entry by entry, behind 23 and before 30 (02, f). Those of a
+    /// place past the count do not count.
+    #[test]
+    fn settings_have_their_place_in_the_order() {
+        let pairs = [
+            (1, 14, (23, 0)),
+            (2, 17, (23, 0)),
+            (14, 3, (31, 0)),
+            (15, 4, (31, 0)),
+            (16, 5, (32, 0)),
+            (17, 7, (32, 0)),
+            (15, 8, (31, 0)),
+            (17, 8, (32, 0)),
+            (14, 10, (31, 0)),
+            (16, 9, (32, 0)),
+            // Both in one entry, and in two.
+            (14, 16, (31, 0)),
+            (15, 17, (31, 0)),
+            (14, 15, (31, 0)),
+            (14, 17, (31, 0)),
+            (16, 15, (32, 0)),
+            (16, 17, (32, 0)),
+            // With a count of one, and of none.
+            (14, 6, (31, 0)),
+            (15, 6, (30, 0)),
+            (17, 6, (30, 0)),
+            (14, 13, (0, 2)),
+            (17, 13, (0, 2)),
+            // No faults but together.
+            (18, 19, (32, 0)),
+            (18, 17, (32, 0)),
+            (19, 15, (31, 0)),
+            (18, 12, (0, 65_534)),
+            (19, 3, (30, 0)),
+        ];
+        for (first, second, expected) in pairs {
+            // No two of these set the same, so which is put in first is no matter.
+            assert_eq!(answer_of(first, second), expected, "{first} {second}");
+            assert_eq!(answer_of(second, first), expected, "{second} {first}");
+        }
+        for (first, second, refusal) in [(17, 19, 0), (19, 17, 32), (15, 18, 0), (18, 15, 31)] {
+            assert_eq!(answer_of(first, second).0, refusal, "{first} {second}");
+        }
+    }
+
     #[test]
     fn nothing_changes_but_the_book() {
         for first in FAULTS {
@@ -146,8 +206,8 @@ mod tests {
         let text = printed(write);
         let mut lines = text.lines();
         assert_eq!(lines.next(), Some("writer"));
-        for row in 0..14 {
-            for column in 0..14 {
+        for row in 0..20 {
+            for column in 0..20 {
                 let front = format!("{row} {column} ");
                 assert!(lines.next().is_some_and(|line| line.starts_with(&front)));
             }

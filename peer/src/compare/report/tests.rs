@@ -1,5 +1,4 @@
 use super::*;
-use crate::compare::tally::{MOST_KINDS, REFUSALS};
 
 const SUBJECT: Subject = Subject {
     name: "trial",
@@ -13,10 +12,7 @@ const SUBJECT: Subject = Subject {
 fn tally() -> Tally {
     let mut tally = Tally {
         calls: 3,
-        refusals: [0; REFUSALS],
-        kinds: [0; MOST_KINDS],
-        differences: 0,
-        told: Vec::new(),
+        ..Tally::default()
     };
     tally.refusals[0] = 2;
     tally.refusals[2] = 1;

@@ -42,14 +42,14 @@ fn the_tables_are_those_of_the_pair() {
 fn the_judge_lines_of_the_paper() {
     let judged = |rows: &[Row]| judge(2, 0, 3, rows.as_flattened());
     let lockout = [0x81, 0x08, 0xF0, 0x08];
-    assert_eq!(judged(&[]), Verdict::Explained(0));
+    assert_eq!(judged(&[]), Ok(Verdict::Explained(0)));
     assert_eq!(
         judged(&[[0x00, 0x08, 0xE1, 0x08], [0x21, 0x18, 0x82, 0x08]]),
-        Verdict::Unexplained(1)
+        Ok(Verdict::Unexplained(1))
     );
     for sent in [[0x00, 0x08], [0x21, 0x18]] {
         let shown = [0x11, 0x08, sent[0], sent[1]];
-        assert_eq!(judged(&[lockout, shown]), Verdict::Explained(2));
+        assert_eq!(judged(&[lockout, shown]), Ok(Verdict::Explained(2)));
     }
 }
 

@@ -1,6 +1,8 @@
 -- `put_book` meets its contract.
 use native.Mathlib.Omega.{arith}
 use lib.ListN.{length-set}
+use borrow.Author.Needs.{needs}
+use Rattle.book.specs.Format.{contentsIn}
 use Rattle.book.proofs.Refusals.{writable}
 use Rattle.book.proofs.Books.{length-filled, length-after, book-written}
 use Rattle.book.proofs.writer.put_book.Statement.{statement}
@@ -8,44 +10,55 @@ use Rattle.book.proofs.writer.put_book.Tie as tie
 
 slice-write-out : tie.Need-slice-write-out
 slice-write-out c =
-    let w = writable (c .before .before .args .contents) _ _ (c .before .before .pre) in
+    let start = c .before .before .before in
+    let w = writable (contentsIn (start .args .contents .now)) _ _ (start .pre .1) in
     omega arith
+
+shared-slice-read-out : tie.Need-shared-slice-read-out
+shared-slice-read-out c = search needs
 
 slice-write-out-2 : tie.Need-slice-write-out-2
 slice-write-out-2 c =
-    let w = writable (c .before .before .args .contents) _ _ (c .before .before .pre) in
+    let start = c .before .before .before .before in
+    let w = writable (contentsIn (start .args .contents .now)) _ _ (start .pre .1) in
     simp length-set (omega arith)
 
 put-entries-requires : tie.Need-put-entries-requires
 put-entries-requires c κs =
-    let a = c .before .before .before .args in
-    let w = writable (a .contents) _ _ (c .before .before .before .pre) in
-    rw (length-set, length-set, ← w .whole) (c .before .before .before .pre)
+    let start = c .before .before .before .before .before in
+    let w = writable (contentsIn (start .args .contents .now)) _ _ (start .pre .1) in
+    (start .pre .0, rw (length-set, length-set, ← w .whole) (start .pre .1))
 
 put-bodies-requires : tie.Need-put-bodies-requires
+unfolding contentsIn
 put-bodies-requires c κs =
-    let a = c .before .before .before .before .before .before .before .args in
-    rw (c .before .before .before .put-entries .ensures, length-filled (a .contents) (a .out .now))
-    (c .before .before .before .before .before .before .before .pre)
+    let start = c .before .before .before .before .before .before .before .before .before in
+    let a = start .args in (
+      start .pre .0,
+      rw (c .before .before .before .put-entries .ensures, length-filled (contentsIn (a .contents .now)) (a .out .now)) (start .pre .1),
+    )
 
 same-length : tie.Need-same-length
+unfolding contentsIn
 same-length c =
-    let a = c .before .before .before .before .before .before .before .before .before .before .args in
-    length-after (a .contents) (a .bodies .now) (a .out .now) _ _
+    let a = c .before .before .before .before .before .before .before .before .before .before .before .before .args in
+    length-after (contentsIn (a .contents .now)) (a .bodies .now) (a .out .now) _ _
     (c .before .before .before .before .before .before .put-entries .ensures) (c .before .before .put-bodies .ensures)
 
 returns : tie.Need-returns
+unfolding contentsIn
 returns c =
-    let a = c .before .before .before .before .before .before .before .before .before .before .args in
-    book-written (a .contents) (a .bodies .now) (a .out .now) _ _
-    (c .before .before .before .before .before .before .put-entries .ensures) (c .before .before .put-bodies .ensures)
-    (c .before .before .before .before .before .before .before .before .before .before .pre)
+    let start = c .before .before .before .before .before .before .before .before .before .before .before .before in
+    let a = start .args in
+    book-written (contentsIn (a .contents .now)) (a .bodies .now) (a .out .now) _ _
+    (c .before .before .before .before .before .before .put-entries .ensures) (c .before .before .put-bodies .ensures) (start .pre .1)
 
 pub put-book-spec : {M : Type 1} → statement M
 put-book-spec =
     tie.close
     (tie.spec
     slice-write-out
+    shared-slice-read-out
     slice-write-out-2
     put-entries-requires
     put-bodies-requires

@@ -5,6 +5,7 @@ use Prim.Native.Nat.{ℕ}
 use native.Mathlib.Omega.{arith}
 use lib.Dec.{eqb}
 use lib.ListN.{drop}
+use Rattle.basics.proofs.Fitting.{fit-bounds}
 use Rattle.pair.specs.Marks.{alarm}
 use Rattle.pair.proofs.Coding.{alarm-test}
 use Rattle.request.specs.declared.Request.{Request}
@@ -12,7 +13,6 @@ use Rattle.controller.specs.Rules.{asked, accepting, held, kept, given, 
 use Rattle.controller.specs.Rules.{decided}
 use Rattle.controller.specs.Step.{protection, waitOf, moved, actsOn}
 use Rattle.controller.proofs.Apart.{command-kind, wait-kind}
-use Rattle.pair.proofs.Looking.{fit-bounds}
 use Rattle.controller.proofs.Inputs.{WellFormed, well-formed}
 use Rattle.controller.proofs.Alarm.{acts-protection, acts-working, acts-unrefused}
 use Rattle.controller.proofs.Sendable.{sendable-room}

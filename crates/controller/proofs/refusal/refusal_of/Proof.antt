@@ -1,13 +1,14 @@
 -- `refusal_of` meets its contract: behind each check that did not apply, the refusal is the first of those that are left.
-use mathlib.Core.Path.{_≡_, sym, _∙_}
+use mathlib.Core.Path.{_≡_, refl, sym, _∙_}
 use Prim.Native.Nat.{ℕ, _+_}
 use lib.Dec.{eqb}
 use lib.ListN.{length, drop}
 use borrow.Author.Tests.{eq-eqb, ne-eqb, lt-ltb, le-ltb}
 use Rattle.basics.specs.Choice.{if_then_else_}
 use Rattle.basics.specs.First.{firstOf}
+use Rattle.basics.proofs.Fitting.{settings-fit}
 use Rattle.controller.specs.Refusals.{stepFaults, refusal}
-use Rattle.controller.proofs.Inputs.{refusal-by-settings, settings-fit}
+use Rattle.controller.proofs.Inputs.{refusal-by-settings}
 use borrow.Author.Needs.{needs}
 use Rattle.controller.proofs.refusal.refusal_of.Statement.{statement}
 use Rattle.controller.proofs.refusal.refusal_of.Tie as tie
@@ -60,7 +61,7 @@ acceptable-requires c κs =
     let start = c .before .before .before in
     let s = start .args .s in
     let none = sym (c .before .settings-refusal .ensures) ∙ c .if1 .left in
-    (settings-fit (s .n) (s .mask) none .0, start .pre .0, start .pre .1)
+    (settings-fit 1 2 (s .n) (s .mask) refl none .0, start .pre .0, start .pre .1)
 
 returns-2 : tie.Need-returns-2
 returns-2 c = sym (left-1 (c .before .before) ∙ simp (c .if2 .taken, ← c .before .acceptable .ensures))

@@ -4,9 +4,9 @@ use mathlib.Core.Bool.{Bool, true, false}
 use Prim.Native.Nat.{ℕ, _+_, _*_, _≤_}
 use native.Mathlib.Omega.{arith}
 use borrow.Author.Needs.{needs}
+use Rattle.basics.specs.Settings.{sectionsFit}
 use Rattle.pair.specs.Request.{requests, carries}
 use Rattle.pair.specs.Marks.{codeOf, channelOf}
-use Rattle.pair.specs.Coder.{sectionsFit}
 use Rattle.pair.proofs.Rows.{beyond-carries}
 use Rattle.pair.proofs.Looking.{carried-most, usable-looked}
 use Rattle.pair.proofs.table.carried.Statement.{statement}

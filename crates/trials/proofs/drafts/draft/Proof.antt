@@ -13,8 +13,8 @@ abbrev μ-loop : tie.MeasureT-loop
 array-read-count : tie.Need-array-read-count Inv-loop μ-loop
 array-read-count c = search needs
 
-place-requires : tie.Need-place-requires Inv-loop μ-loop
-place-requires c κs = search needs
+unseen-requires : tie.Need-unseen-requires Inv-loop μ-loop
+unseen-requires c κs = search needs
 
 loop-holds : tie.Need-loop-holds Inv-loop μ-loop
 loop-holds c = search needs
@@ -53,7 +53,7 @@ draft-spec =
     Inv-loop
     μ-loop
     array-read-count
-    place-requires
+    unseen-requires
     loop-holds
     wide-requires
     place-of-requires

@@ -5,16 +5,16 @@ use borrow.Author.Needs.{needs}
 use Rattle.trials.proofs.writer.write_within.Statement.{statement}
 use Rattle.trials.proofs.writer.write_within.Tie as tie
 
-slice-relend-prefix-print-written : tie.Need-slice-relend-prefix-print-written
-slice-relend-prefix-print-written c = search needs
+slice-relend-prefix-write-list : tie.Need-slice-relend-prefix-write-list
+slice-relend-prefix-write-list c = search needs
 
-slice-aggregate-print-written : tie.Need-slice-aggregate-print-written
-slice-aggregate-print-written c =
+slice-aggregate-write-list : tie.Need-slice-aggregate-write-list
+slice-aggregate-write-list c =
     let a = c .before .before .before .before .args in
     sym (length-take-le (a .room) (a .out .now) (c .before .if1 .taken))
 
-print-written-requires : tie.Need-print-written-requires
-print-written-requires c κs = search needs
+write-list-requires : tie.Need-write-list-requires
+write-list-requires c κs = search needs
 
 same-length : tie.Need-same-length
 same-length c = search needs
@@ -29,9 +29,9 @@ pub write-within-spec : {M : Type 1} → statement M
 write-within-spec =
     tie.close
     (tie.spec
-    slice-relend-prefix-print-written
-    slice-aggregate-print-written
-    print-written-requires
+    slice-relend-prefix-write-list
+    slice-aggregate-write-list
+    write-list-requires
     same-length
     returns
     returns-2)
