@@ -1,13 +1,13 @@
 -- Laws of big-endian numbers: past the end nothing is read and nothing is written; two runs of writes,
 -- one behind the other, are one; what was written is read back.
 use mathlib.Core.Path.{_≡_, refl, sym, ap, _∙_}
-use mathlib.Core.List.{List, [], _∷_, _++_, append-assoc}
+use mathlib.Core.List.{List, [], _∷_, _++_, append-assoc, append-nil}
 use Prim.Native.Nat.{ℕ, suc, _+_, _-_, _≤_, _<_, _/_, _%_}
 use native.Mathlib.Nat.{add-zero, zero-add, add-suc, suc-add}
 use native.Mathlib.Numerals.{add-one}
 use native.Mathlib.Omega.{arith}
-use lib.ListN.{length, getD, set, take, drop, length-set, length-drop, List·getD-eq-default}
-use lib.Seq.{set-out, sets, sets-eq, length-sets, getD-set-same, getD-set-other, drop-drop, take-all}
+use lib.ListN.{length, getD, set, take, drop, length-set, length-drop, drop-of-length-le, List·getD-eq-default}
+use lib.Seq.{set-out, sets, sets-eq, length-sets, getD-set-same, getD-set-other, drop-drop, take-all, take-length}
 use Rattle.basics.specs.Bytes.{twoAt, fourAt, twoBytes, fourBytes}
 
 pub two-past : (bytes : List ℕ) (at : ℕ) → length bytes ≤ at → twoAt bytes at ≡ 0
@@ -56,6 +56,23 @@ sets-part values bytes at h =
       zero-add,
     )
     (sym (append-assoc (take at bytes) values (drop (at + length values) bytes)))
+
+-- the output once its part from a place on, lent to be written, is back
+abbrev pub back : List ℕ → ℕ → List ℕ → List ℕ
+back out at part = take at out ++ (part ++ drop (length out - at) (drop at out))
+
+pub lent : (out part values : List ℕ) (at : ℕ) → at + length values ≤ length out
+    → part ≡ sets (take (length out - at) (drop at out)) 0 values → back out at part ≡ sets out at values
+lent out part values at h e =
+    let rest = drop at out in
+    let none : drop (length out - at) rest ≡ [] =
+    drop-of-length-le rest {i = length out - at} (simp length-drop (omega arith)) in
+    rw (none, append-nil, e, rest-part at out) (sets-part values out at h)
+
+-- what copying bytes to the start of a part leaves there
+pub copied : (source part : List ℕ) → length source ≤ length part
+    → take (length source) source ++ drop (length source) part ≡ sets part 0 source
+copied source part h = rw (sets-eq source part 0 (omega arith), take-length source, zero-add)
 
 -- what is written from a place on leaves the bytes before it
 before-sets : (values bytes : List ℕ) (at k : ℕ) → k < at → getD (sets bytes at values) k 0 ≡ getD bytes k 0

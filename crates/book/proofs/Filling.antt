@@ -2,30 +2,17 @@
 use mathlib.Core.Path.{_≡_, refl, sym, ap, _∙_}
 use mathlib.Core.List.{List, [], _∷_, _++_, append-nil, append-assoc}
 use Prim.Native.Nat.{ℕ, _+_, _*_, _-_, _≤_, _<_}
-use native.Mathlib.Nat.{zero-add}
 use native.Mathlib.Omega.{arith}
 use lib.ListN.{length, getD, set, take, drop, length-drop, length-append, take-append-drop, drop-of-length-le}
-use lib.Seq.{sets, sets-eq, length-sets, drop-drop, take-length, length-take-le, take-at, drop-at}
+use lib.Seq.{sets, sets-eq, length-sets, drop-drop, length-take-le, take-at, drop-at}
 use Rattle.basics.specs.Bytes.{fourBytes}
-use Rattle.basics.proofs.Bytes.{rest-part, sets-part, sets-joined}
+use Rattle.basics.proofs.Bytes.{rest-part, sets-joined, back, lent, copied}
 use Rattle.book.specs.Format.{entryBytes, firstBody, placedAt, placed, contentsBytes, contentsIn, most}
 use Rattle.book.specs.Writer.{counted, stepsOf, writeRefusal}
 use Rattle.book.specs.declared.Entry.{Entry}
 use Rattle.book.proofs.Refusals.{Writable, writable}
 use Rattle.book.proofs.Counted.{handed, counted-handed, length-handed, steps-next, steps-none}
 use Rattle.book.proofs.Laid.{length-entry, length-contents, length-first, small-rest, entries-again, place-put}
-
--- the output once its part from a place on, lent to be written, is back
-abbrev pub back : List ℕ → ℕ → List ℕ → List ℕ
-back out at part = take at out ++ (part ++ drop (length out - at) (drop at out))
-
-pub lent : (out part values : List ℕ) (at : ℕ) → at + length values ≤ length out
-    → part ≡ sets (take (length out - at) (drop at out)) 0 values → back out at part ≡ sets out at values
-lent out part values at h e =
-    let rest = drop at out in
-    let none : drop (length out - at) rest ≡ [] =
-    drop-of-length-le rest {i = length out - at} (simp length-drop (omega arith)) in
-    rw (none, append-nil, e, rest-part at out) (sets-part values out at h)
 
 -- The entries stand behind the first two bytes as they were handed in; those before i have their places, and the body of the
 -- next one belongs at `at`.
@@ -167,11 +154,6 @@ pub fill-all : (bytes : List ℕ) {before out : List ℕ} {at i : ℕ}
     ≡ sets before 2 (contentsBytes (placed (firstBody (contentsIn bytes .count)) (counted (contentsIn bytes))))
 unfolding contentsIn
 fill-all bytes filling h = rw (counted-handed bytes (filling .few)) (fill-done filling h)
-
--- what copying bytes to the start of a part leaves there
-pub copied : (source part : List ℕ) → length source ≤ length part
-    → take (length source) source ++ drop (length source) part ≡ sets part 0 source
-copied source part h = rw (sets-eq source part 0 (omega arith), take-length source, zero-add)
 
 -- What copying the entries leaves: they stand there with what was behind them, and what is then written over them leaves
 -- what it would have left before.
@@ -335,10 +317,6 @@ module _ {bodies before out : List ℕ} {count : ℕ} {entries : List Entry} {at
     length-body =
         length-take-le (from + size - from) (drop from bodies) (simp length-drop (omega (arith, join-inside)))
         ∙ omega arith
-
-    pub join-fits :
-        length (take (from + size - from) (drop from bodies)) ≤ length (take (length out - at) (drop at out))
-    join-fits = rw (length-body, rest-part at out, length-drop at out) (omega (arith, join-room))
 
     pub join-next : (part : List ℕ)
         → part ≡ sets (take (length out - at) (drop at out)) 0 (take (from + size - from) (drop from bodies))

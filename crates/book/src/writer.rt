@@ -121,7 +121,7 @@ fn put_bodies(contents: &[u8], bodies: &[u8], out: &mut [u8])
         let size = body_size(e);
         let to = from + size;
         let end = at + size;
-        bytes::copy(&bodies[from..to], &mut out[at..]);
+        blocks::copy(&bodies[from..to], &mut out[at..]);
         from = to;
         at = end;
         i += 1;

@@ -6,8 +6,7 @@ use native.Mathlib.Omega.{arith}
 use lib.ListN.{length, set, take, drop, length-set, length-drop}
 use lib.Seq.{sets, length-sets}
 use borrow.Author.Needs.{needs}
-use Rattle.basics.proofs.Bytes.{rest-part}
-use Rattle.book.proofs.Filling.{back, lent, copied}
+use Rattle.basics.proofs.Bytes.{rest-part, back, lent, copied}
 use Rattle.book.proofs.listing.put_listed.Statement.{statement}
 use Rattle.book.proofs.listing.put_listed.Tie as tie
 

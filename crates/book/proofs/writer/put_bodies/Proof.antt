@@ -3,14 +3,13 @@ use mathlib.Core.Path.{_≡_, ap, _∙_}
 use mathlib.Core.List.{_∷_}
 use Prim.Native.Nat.{_+_, _*_, _-_, _<_}
 use native.Mathlib.Omega.{arith}
-use lib.ListN.{length, getD, take, drop}
+use lib.ListN.{getD, drop}
 use borrow.Author.Needs.{needs}
 use Rattle.basics.proofs.Bytes.{rest-part}
 use Rattle.book.specs.Format.{entryIn, contentsIn}
 use Rattle.book.specs.declared.Entry.{Entry}
 use Rattle.book.proofs.Counted.{Listed, listed, handed, handed-next}
-use Rattle.book.proofs.Filling.{Joining, join-start, join-inside, join-room, join-fits, join-next, join-all}
-use Rattle.book.proofs.Filling.{copied}
+use Rattle.book.proofs.Filling.{Joining, join-start, join-inside, join-room, join-next, join-all}
 use Rattle.book.proofs.Refusals.{writable}
 use Rattle.book.proofs.writer.put_bodies.Statement.{statement}
 use Rattle.book.proofs.writer.put_bodies.Tie as tie
@@ -125,10 +124,7 @@ part-copy-end-2 : tie.Need-part-copy-end-2 Inv-loop μ-loop
 part-copy-end-2 c = search needs
 
 copy-requires : tie.Need-copy-requires Inv-loop μ-loop
-copy-requires c κs =
-    let b = c .before .before in
-    let t = turn b in
-    join-fits (b .before .before .before .before .loop .inv .1) (t .within) (t .entry) (t .next) (b .body-size .result) (t .sized)
+copy-requires c κs = search needs
 
 add-i : tie.Need-add-i Inv-loop μ-loop
 add-i c = search needs
@@ -142,13 +138,10 @@ loop-again c =
     let bodies = b .before .before .before .before .before .before .before .before .before .before .args .bodies .now in
     let w = b .before .before .before .before .loop in
     let t = turn b in
-    let size = b .body-size .result in
-    let source = take (w .from + size - w .from) (drop (w .from) bodies) in
-    let part = take (length (w .out) - w .at) (drop (w .at) (w .out)) in (
+    let size = b .body-size .result in (
       w .inv .0,
       join-next (w .inv .1) (t .within) (t .entry) (t .next) size (t .sized) (c .before .before .copy .last .1 .0)
-          (c .before .before .copy .ensures .1
-          ∙ copied source part (join-fits (w .inv .1) (t .within) (t .entry) (t .next) size (t .sized))),
+          (c .before .before .copy .ensures),
     )
 
 same-length : tie.Need-same-length Inv-loop μ-loop

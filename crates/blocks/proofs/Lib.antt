@@ -1,0 +1,3 @@
+-- Theorems is the front door; the laws behind it are its own.
+mod Blocks
+mod Theorems
