@@ -7,7 +7,7 @@ use native.Mathlib.Nat.{add-zero, zero-add, add-suc, suc-add}
 use native.Mathlib.Numerals.{add-one}
 use native.Mathlib.Omega.{arith}
 use lib.ListN.{length, getD, set, take, drop, length-set, length-drop, drop-of-length-le, List·getD-eq-default}
-use lib.Seq.{set-out, sets, sets-eq, length-sets, getD-set-same, getD-set-other, drop-drop, take-all, take-length}
+use lib.Seq.{set-out, set-comm, sets, sets-eq, length-sets, getD-set-same, getD-set-other, drop-drop, take-all, take-length}
 use Rattle.basics.specs.Bytes.{twoAt, fourAt, twoBytes, fourBytes}
 
 pub two-past : (bytes : List ℕ) (at : ℕ) → length bytes ≤ at → twoAt bytes at ≡ 0
@@ -39,6 +39,20 @@ pub sets-joined : (us vs bytes between after : List ℕ) (at : ℕ)
     → between ≡ sets bytes at us → after ≡ sets between (at + length us) vs → after ≡ sets bytes at (us ++ vs)
 sets-joined us vs bytes between after at first second =
     second ∙ ap (λ (l : List ℕ). sets l (at + length us) vs) first ∙ sets-append us vs bytes at
+
+-- two writes that do not meet leave the same in either order
+set-apart : (vs bytes : List ℕ) (i j v : ℕ) → i < j → sets (set bytes i v) j vs ≡ set (sets bytes j vs) i v
+set-apart [] bytes i j v h = refl
+set-apart (w ∷ vs) bytes i j v h =
+    ap (λ (l : List ℕ). sets l (suc j) vs) (set-comm bytes i j v w (λ e. omega arith))
+    ∙ set-apart vs (set bytes j w) i (suc j) v (omega arith)
+
+pub sets-apart : (us vs bytes : List ℕ) (i j : ℕ) → i + length us ≤ j
+    → sets (sets bytes j vs) i us ≡ sets (sets bytes i us) j vs
+sets-apart [] vs bytes i j h = refl
+sets-apart (u ∷ us) vs bytes i j h =
+    ap (λ (l : List ℕ). sets l (suc i) us) (sym (set-apart vs bytes i j u (omega arith)))
+    ∙ sets-apart us vs (set bytes i u) (suc i) j (omega arith)
 
 -- the part of a list from a place on, as a slice is cut
 pub rest-part : (at : ℕ) (bytes : List ℕ) → take (length bytes - at) (drop at bytes) ≡ drop at bytes
@@ -73,6 +87,11 @@ lent out part values at h e =
 pub copied : (source part : List ℕ) → length source ≤ length part
     → take (length source) source ++ drop (length source) part ≡ sets part 0 source
 copied source part h = rw (sets-eq source part 0 (omega arith), take-length source, zero-add)
+
+pub over-all : (source part : List ℕ) → length source ≡ length part
+    → take (length source) source ++ drop (length source) part ≡ source
+over-all source part e =
+    rw (take-length source, drop-of-length-le part {i = length source} (omega arith), append-nil)
 
 -- what is written from a place on leaves the bytes before it
 before-sets : (values bytes : List ℕ) (at k : ℕ) → k < at → getD (sets bytes at values) k 0 ≡ getD bytes k 0

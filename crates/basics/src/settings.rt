@@ -20,12 +20,10 @@ fn mask_fits(n: u8, mask: u16) -> bool
 pub fn settings_refusal(n: u8, mask: u16, first: u8, second: u8) -> u8
     ensures { λ r. ⌜ r ≡ firstOf (settingsChecks first second n mask) ⌝ }
 {
-    let n_good = sections_fit(n);
-    let mask_good = mask_fits(n, mask);
-    if !n_good {
+    if !sections_fit(n) {
         return first;
     }
-    if !mask_good {
+    if !mask_fits(n, mask) {
         return second;
     }
     0

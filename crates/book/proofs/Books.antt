@@ -27,48 +27,42 @@ length-book entries bodies =
     let contents = contentsBytes (placed (firstBody (length entries)) entries) in
     omega (arith, length-append contents bodies, length-first (firstBody (length entries)) entries)
 
--- what the two first bytes and the contents leave of an output
-abbrev pub withContents : Contents → List ℕ → List ℕ
-withContents contents out =
-    sets (set (set out 0 1) 1 (contents .count)) 2
-    (contentsBytes (placed (firstBody (contents .count)) (counted contents)))
+-- what the writer leaves of an output: the two first bytes, the contents, and the bodies behind them
+module _ (contents : Contents) (bodies out after : List ℕ) where
+  abbrev start : List ℕ
+  start = set (set out 0 1) 1 (contents .count)
 
-pub length-filled : (contents : Contents) (out : List ℕ) → length (withContents contents out) ≡ length out
-length-filled contents out =
-    length-sets (set (set out 0 1) 1 (contents .count)) 2
-    (contentsBytes (placed (firstBody (contents .count)) (counted contents)))
-    ∙ length-set (set out 0 1) 1 (contents .count)
-    ∙ length-set out 0 1
+  abbrev listing : List ℕ
+  listing = contentsBytes (placed (firstBody (contents .count)) (counted contents))
 
-module _ (contents : Contents) (bodies out filled after : List ℕ) (first : filled ≡ withContents contents out)
-    (second : after ≡ sets filled (firstBody (contents .count)) bodies) where
-  pub length-after : length after ≡ length out
-  length-after =
-      ap length second
-      ∙ length-sets filled (firstBody (contents .count)) bodies
-      ∙ ap length first
-      ∙ length-filled contents out
+  module _ (written : after ≡ sets (sets start 2 listing) (firstBody (contents .count)) bodies) where
+    pub length-after : length after ≡ length out
+    length-after =
+        ap length written
+        ∙ length-sets (sets start 2 listing) (firstBody (contents .count)) bodies
+        ∙ length-sets start 2 listing
+        ∙ length-set (set out 0 1) 1 (contents .count)
+        ∙ length-set out 0 1
 
-  pub book-written : writeRefusal contents (length bodies) (length out) ≡ 0
-      → after ≡ bookOf (counted contents) bodies ++ drop (size contents (length bodies)) out
-  unfolding bookOf
-  book-written e =
-      let w = writable contents (length bodies) (length out) e in
-      let k = length-counted (contents .count) (contents .entries) in
-      let parts = contentsBytes (placed (firstBody (contents .count)) (counted contents)) in
-      let start = set (set out 0 1) 1 (contents .count) in
-      let behind : firstBody (contents .count) ≡ 2 + length parts =
-      omega (arith, length-first (firstBody (contents .count)) (counted contents), k) in
-      let joined : after ≡ sets start 2 (parts ++ bodies) =
-      sets-joined parts bodies start filled after 2 first (second ∙ ap (λ (n : ℕ). sets filled n bodies) behind) in
-      let whole : 1 ∷ contents .count ∷ parts ++ bodies ≡ bookOf (counted contents) bodies = rw k in
-      let long : length (bookOf (counted contents) bodies) ≡ size contents (length bodies) =
-      length-book (counted contents) bodies ∙ ap (λ (n : ℕ). firstBody n + length bodies) k in
-      joined
-      ∙ ap (sets out 0) whole
-      ∙ sets-eq (bookOf (counted contents) bodies) out 0 (omega (arith, long, w .roomy))
-      ∙ ap (λ (n : ℕ). bookOf (counted contents) bodies ++ drop n out)
-      (zero-add (length (bookOf (counted contents) bodies)) ∙ long)
+    pub book-written : writeRefusal contents (length bodies) (length out) ≡ 0
+        → after ≡ bookOf (counted contents) bodies ++ drop (size contents (length bodies)) out
+    unfolding bookOf
+    book-written e =
+        let w = writable contents (length bodies) (length out) e in
+        let k = length-counted (contents .count) (contents .entries) in
+        let behind : firstBody (contents .count) ≡ 2 + length listing =
+        omega (arith, length-first (firstBody (contents .count)) (counted contents), k) in
+        let joined : after ≡ sets start 2 (listing ++ bodies) =
+        sets-joined listing bodies start (sets start 2 listing) after 2 refl
+        (written ∙ ap (λ (n : ℕ). sets (sets start 2 listing) n bodies) behind) in
+        let whole : 1 ∷ contents .count ∷ listing ++ bodies ≡ bookOf (counted contents) bodies = rw k in
+        let long : length (bookOf (counted contents) bodies) ≡ size contents (length bodies) =
+        length-book (counted contents) bodies ∙ ap (λ (n : ℕ). firstBody n + length bodies) k in
+        joined
+        ∙ ap (sets out 0) whole
+        ∙ sets-eq (bookOf (counted contents) bodies) out 0 (omega (arith, long, w .roomy))
+        ∙ ap (λ (n : ℕ). bookOf (counted contents) bodies ++ drop n out)
+        (zero-add (length (bookOf (counted contents) bodies)) ∙ long)
 
 -- what the writer answers, and what the output then holds, where it refuses nothing and where it refuses
 module _ (contents : Contents) (bodies out : List ℕ) where

@@ -77,19 +77,15 @@ entries-again (suc k) bytes small h =
     (sym (take-add 12 (12 * k) bytes))
 
 -- an entry that stands there as it was handed in, once the writer has put there what it puts itself
-pub place-put : (e : Entry) (rest : List ℕ) (at : ℕ)
-    → sets (set (entryBytes e ++ rest) 1 0) 6 (fourBytes at) ≡ entryBytes (placedAt at e) ++ rest
+place-put : (e : Entry) (at : ℕ) → sets (set (entryBytes e) 1 0) 6 (fourBytes at) ≡ entryBytes (placedAt at e)
 unfolding entryBytes
-place-put e rest at = refl
+place-put e at = refl
 
-pub entry-placed : (bytes : List ℕ) → ((i : ℕ) → getD bytes i 0 < 256) → length bytes ≡ 12 → (at : ℕ)
-    → entryBytes (placedAt at (entryIn bytes)) ≡ sets (set bytes 1 0) 6 (fourBytes at)
+pub entry-placed : (bytes : List ℕ) → ((i : ℕ) → getD bytes i 0 < 256) → 12 ≤ length bytes → (at : ℕ)
+    → entryBytes (placedAt at (entryIn bytes)) ≡ sets (set (take 12 bytes) 1 0) 6 (fourBytes at)
 entry-placed bytes small long at =
-    let whole : entryBytes (entryIn bytes) ++ [] ≡ bytes =
-    append-nil (entryBytes (entryIn bytes)) ∙ entry-again bytes small (omega arith) ∙ take-all 12 bytes (omega arith) in
-    sym (append-nil (entryBytes (placedAt at (entryIn bytes))))
-    ∙ sym (place-put (entryIn bytes) [] at)
-    ∙ ap (λ (l : List ℕ). sets (set l 1 0) 6 (fourBytes at)) whole
+    sym (place-put (entryIn bytes) at)
+    ∙ ap (λ (l : List ℕ). sets (set l 1 0) 6 (fourBytes at)) (entry-again bytes small long)
 
 -- the bytes of entries one behind the other, and of places that are zeros
 pub contents-joined : (entries after : List Entry)

@@ -3,6 +3,7 @@ mod Refusals
 pub mod Laid
 mod Entries
 mod Counted
+mod Held
 mod Filling
 pub mod Books
 mod Ordered

@@ -169,8 +169,8 @@ listed-right : (book : List ℕ) → ((i : ℕ) → getD book i 0 < 256) → IsB
     ≡ (countIn book ∷ take (12 * countIn book) (drop 2 book)) ++ replicate (12 * (64 - countIn book)) 0
 listed-right = listed-book
 
-placed-right : (bytes : List ℕ) → ((i : ℕ) → getD bytes i 0 < 256) → length bytes ≡ 12 → (at : ℕ)
-    → entryBytes (placedAt at (entryIn bytes)) ≡ sets (set bytes 1 0) 6 (fourBytes at)
+placed-right : (bytes : List ℕ) → ((i : ℕ) → getD bytes i 0 < 256) → 12 ≤ length bytes → (at : ℕ)
+    → entryBytes (placedAt at (entryIn bytes)) ≡ sets (set (take 12 bytes) 1 0) 6 (fourBytes at)
 placed-right = entry-placed
 
 -- Contents in bytes by themselves are 769. What was written there is read back, and what was read there is written again

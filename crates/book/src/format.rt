@@ -2,10 +2,13 @@
 use crate::Entry;
 ghost use Prim.Native.Nat.{_+_, _*_, _≤_};
 ghost use Rattle.basics.specs.Bytes.{fourBytes};
-ghost use Rattle.book.specs.Format.{entryIn, firstBody};
+ghost use Rattle.book.specs.Format.{most, entryIn, entryBytes, placedAt, firstBody};
 ghost use lib.ListN.{length, set};
 ghost use lib.Seq.{sets};
 ghost use mathlib.Core.Path.{_≡_};
+
+// The most bytes that a book may have.
+pub(crate) const MOST: usize = 65536;
 
 pub(crate) fn first_body(k: u8) -> usize
     ensures { λ r. ⌜ r ≡ firstBody k ⌝ }
@@ -47,7 +50,7 @@ pub(crate) fn entry_in(part: &[u8]) -> Entry
 }
 
 // Of an entry that stands there as it was handed in: spare 0, and the offset at which its body belongs.
-pub(crate) fn put_place(part: &mut [u8], at: u32)
+fn put_place(part: &mut [u8], at: u32)
     requires { ⌜ 12 ≤ length (now part) ⌝ }
     ensures { λ _. ⌜ now (part .exit) ≡ sets (set (now (part .entry)) 1 0) 6 (fourBytes at) ⌝ }
 {
@@ -58,4 +61,26 @@ pub(crate) fn put_place(part: &mut [u8], at: u32)
     part[7] = (high % 256) as u8;
     part[8] = (low / 256) as u8;
     part[9] = (low % 256) as u8;
+}
+
+// An entry is taken up, placed and put down, and so is a body without being placed: as nothing is written before all is
+// read, the compiler makes one move of it, and the table for what is taken up goes.
+pub(crate) fn put_entry(entry: &[u8], part: &mut [u8], at: u32)
+    requires { ⌜ (12 ≤ length (now entry)) × (12 ≤ length (now part)) ⌝ }
+    ensures { λ _. ⌜ now (part .exit) ≡ sets (now (part .entry)) 0 (entryBytes (placedAt at (entryIn (now (entry .entry))))) ⌝ }
+{
+    let mut held = [0u8; 12];
+    bytes::copy(&entry[..12], &mut held);
+    put_place(&mut held, at);
+    bytes::copy(&held, part);
+}
+
+pub(crate) fn put_body(body: &[u8], part: &mut [u8])
+    requires { ⌜ (length (now body) ≤ most) × (length (now body) ≤ length (now part)) ⌝ }
+    ensures { λ _. ⌜ now (part .exit) ≡ sets (now (part .entry)) 0 (now (body .entry)) ⌝ }
+{
+    let size = body.len();
+    let mut held = [0u8; MOST];
+    bytes::copy(body, &mut held[..size]);
+    bytes::copy(&held[..size], part);
 }

@@ -1,5 +1,6 @@
 // Refusals 20 to 28, 31 and 32, and the count of a book that has none (01, 'Numbered refusals'; 02, f).
 use crate::Entry;
+use crate::format::MOST;
 use crate::format::body_size;
 use crate::format::entry_in;
 use crate::format::first_body;
@@ -18,8 +19,6 @@ pub(crate) const NO_ENTRY: Entry = Entry {
     offset: 0,
     steps: 0,
 };
-
-pub(crate) const MOST: usize = 65536;
 
 fn head_refusal(book: &[u8]) -> u8
     ensures { λ r. ⌜ r ≡ firstOf (headFaults (now (book .entry))) ⌝ }

@@ -1,10 +1,11 @@
 // Refusals 23, 31, 32, 30, 20 and 29, and the bytes of a book that has none of them (01, 'Capture book'; 02, f). What is
 // handed in are contents in 769 bytes by themselves.
+use crate::format::MOST;
 use crate::format::body_size;
 use crate::format::entry_in;
 use crate::format::first_body;
-use crate::format::put_place;
-use crate::reader::MOST;
+use crate::format::put_body;
+use crate::format::put_entry;
 use basics::settings::settings_refusal;
 ghost use Prim.Native.Nat.{_+_, _*_, _≤_};
 ghost use Rattle.basics.specs.First.{firstOf};
@@ -78,50 +79,24 @@ pub(crate) fn write_refusal(contents: &[u8], bodies: &[u8], room: usize) -> u8
     0
 }
 
-// Entry by entry, where all of them stand as they were handed in.
-fn put_places(contents: &[u8], out: &mut [u8])
-    requires { ⌜ (length (now contents) ≡ 769) × (writeRefusal (contentsIn (now contents)) (4 * stepsOf (counted (contentsIn (now contents)))) (length (now out)) ≡ 0) × (drop 2 (now out) ≡ contentsBytes (counted (contentsIn (now contents))) ++ drop (firstBody (contentsIn (now contents) .count)) (now out)) ⌝ }
-    ensures { λ _. ⌜ now (out .exit) ≡ sets (now (out .entry)) 2 (contentsBytes (placed (firstBody (contentsIn (now (contents .entry)) .count)) (counted (contentsIn (now (contents .entry)))))) ⌝ }
-{
-    let count = contents[0];
-    let mut at = first_body(count);
-    let mut i = 0;
-    while i < count as usize {
-        let from = 1 + 12 * i;
-        let e = entry_in(&contents[from..]);
-        let to = 2 + 12 * i;
-        put_place(&mut out[to..], at as u32);
-        at += body_size(e);
-        i += 1;
-    }
-}
-
-// The entries as they were handed in, all at once; then what the writer puts there itself.
-fn put_entries(contents: &[u8], out: &mut [u8])
-    requires { ⌜ (length (now contents) ≡ 769) × (writeRefusal (contentsIn (now contents)) (4 * stepsOf (counted (contentsIn (now contents)))) (length (now out)) ≡ 0) ⌝ }
-    ensures { λ _. ⌜ now (out .exit) ≡ sets (now (out .entry)) 2 (contentsBytes (placed (firstBody (contentsIn (now (contents .entry)) .count)) (counted (contentsIn (now (contents .entry)))))) ⌝ }
-{
-    let listed = first_body(contents[0]) - 1;
-    bytes::copy(&contents[1..listed], &mut out[2..]);
-    put_places(contents, out);
-}
-
-// Body by body, each into the part of the output that starts at its offset.
-fn put_bodies(contents: &[u8], bodies: &[u8], out: &mut [u8])
+// Capture by capture: its entry, and its body in the part of the output that starts at its offset.
+fn put_captures(contents: &[u8], bodies: &[u8], out: &mut [u8])
     requires { ⌜ (length (now contents) ≡ 769) × (writeRefusal (contentsIn (now contents)) (length (now bodies)) (length (now out)) ≡ 0) ⌝ }
-    ensures { λ _. ⌜ now (out .exit) ≡ sets (now (out .entry)) (firstBody (contentsIn (now (contents .entry)) .count)) (now (bodies .entry)) ⌝ }
+    ensures { λ _. ⌜ now (out .exit) ≡ sets (sets (now (out .entry)) 2 (contentsBytes (placed (firstBody (contentsIn (now (contents .entry)) .count)) (counted (contentsIn (now (contents .entry))))))) (firstBody (contentsIn (now (contents .entry)) .count)) (now (bodies .entry)) ⌝ }
 {
     let count = contents[0];
     let mut at = first_body(count);
     let mut from = 0;
     let mut i = 0;
     while i < count as usize {
-        let place = 1 + 12 * i;
-        let e = entry_in(&contents[place..]);
+        let given = 1 + 12 * i;
+        let e = entry_in(&contents[given..]);
         let size = body_size(e);
         let to = from + size;
         let end = at + size;
-        blocks::copy(&bodies[from..to], &mut out[at..]);
+        let place = 2 + 12 * i;
+        put_entry(&contents[given..], &mut out[place..], at as u32);
+        put_body(&bodies[from..to], &mut out[at..]);
         from = to;
         at = end;
         i += 1;
@@ -134,6 +109,5 @@ pub(crate) fn put_book(contents: &[u8], bodies: &[u8], out: &mut [u8])
 {
     out[0] = 1;
     out[1] = contents[0];
-    put_entries(contents, out);
-    put_bodies(contents, bodies, out);
+    put_captures(contents, bodies, out);
 }

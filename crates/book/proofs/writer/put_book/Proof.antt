@@ -4,7 +4,7 @@ use lib.ListN.{length-set}
 use borrow.Author.Needs.{needs}
 use Rattle.book.specs.Format.{contentsIn}
 use Rattle.book.proofs.Refusals.{writable}
-use Rattle.book.proofs.Books.{length-filled, length-after, book-written}
+use Rattle.book.proofs.Books.{length-after, book-written}
 use Rattle.book.proofs.writer.put_book.Statement.{statement}
 use Rattle.book.proofs.writer.put_book.Tie as tie
 
@@ -23,35 +23,24 @@ slice-write-out-2 c =
     let w = writable (contentsIn (start .args .contents .now)) _ _ (start .pre .1) in
     simp length-set (omega arith)
 
-put-entries-requires : tie.Need-put-entries-requires
-put-entries-requires c κs =
+put-captures-requires : tie.Need-put-captures-requires
+put-captures-requires c κs =
     let start = c .before .before .before .before .before in
-    let w = writable (contentsIn (start .args .contents .now)) _ _ (start .pre .1) in
-    (start .pre .0, rw (length-set, length-set, ← w .whole) (start .pre .1))
-
-put-bodies-requires : tie.Need-put-bodies-requires
-unfolding contentsIn
-put-bodies-requires c κs =
-    let start = c .before .before .before .before .before .before .before .before .before in
-    let a = start .args in (
-      start .pre .0,
-      rw (c .before .before .before .put-entries .ensures, length-filled (contentsIn (a .contents .now)) (a .out .now)) (start .pre .1),
-    )
+    (start .pre .0, rw (length-set, length-set) (start .pre .1))
 
 same-length : tie.Need-same-length
 unfolding contentsIn
 same-length c =
-    let a = c .before .before .before .before .before .before .before .before .before .before .before .before .args in
-    length-after (contentsIn (a .contents .now)) (a .bodies .now) (a .out .now) _ _
-    (c .before .before .before .before .before .before .put-entries .ensures) (c .before .before .put-bodies .ensures)
+    let a = c .before .before .before .before .before .before .before .before .args in
+    length-after (contentsIn (a .contents .now)) (a .bodies .now) (a .out .now) _ (c .before .before .put-captures .ensures)
 
 returns : tie.Need-returns
 unfolding contentsIn
 returns c =
-    let start = c .before .before .before .before .before .before .before .before .before .before .before .before in
+    let start = c .before .before .before .before .before .before .before .before in
     let a = start .args in
-    book-written (contentsIn (a .contents .now)) (a .bodies .now) (a .out .now) _ _
-    (c .before .before .before .before .before .before .put-entries .ensures) (c .before .before .put-bodies .ensures) (start .pre .1)
+    book-written (contentsIn (a .contents .now)) (a .bodies .now) (a .out .now) _ (c .before .before .put-captures .ensures)
+    (start .pre .1)
 
 pub put-book-spec : {M : Type 1} → statement M
 put-book-spec =
@@ -60,7 +49,6 @@ put-book-spec =
     slice-write-out
     shared-slice-read-out
     slice-write-out-2
-    put-entries-requires
-    put-bodies-requires
+    put-captures-requires
     same-length
     returns)
