@@ -20,10 +20,12 @@ fn mask_fits(n: u8, mask: u16) -> bool
 pub fn settings_refusal(n: u8, mask: u16, first: u8, second: u8) -> u8
     ensures { λ r. ⌜ r ≡ firstOf (settingsChecks first second n mask) ⌝ }
 {
-    if !sections_fit(n) {
+    let n_good = sections_fit(n);
+    let mask_good = n_good && mask_fits(n, mask);
+    if !n_good {
         return first;
     }
-    if !mask_fits(n, mask) {
+    if !mask_good {
         return second;
     }
     0
