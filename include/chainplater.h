@@ -1,7 +1,7 @@
 /*
  * Chainplater: the K1/K2 coder, the controller for linear 1:n multiplex section protection (ITU-T G.841), the judge
- * of captured lines, and the reader and writer of capture books. The code behind these functions is proved; see
- * README.md for what the proofs say and what they rest on.
+ * of captured lines, the list of their switches, and the reader and writer of capture books. The code behind these
+ * functions is proved; see README.md for what the proofs say and what they rest on.
  *
  * Every function takes every value of its arguments and ends. All but chainplater_k1, which has nothing to refuse and
  * returns nothing, return 0 or the number of a refusal:
@@ -16,17 +16,18 @@
  *    8  the capture is not whole steps       27  a body ends past the book
  *    9  the capture has over 16,384 steps    28  bytes are left over
  *   10  no pair codes that record            29  the output has too little room
- *                                            30  the bodies are not as long as the contents say
- *                                            31  the n of a capture is not 1 to 14
- *                                            32  the mask of a capture has a bit at its n or above
+ *   12  the table has too few entries        30  the bodies are not as long as the contents say
+ *   13  the step is not in the capture       31  the n of a capture is not 1 to 14
+ *   16  the list is not the capture's        32  the mask of a capture has a bit at its n or above
  *
  * Where several apply, one is returned: each function says below which refusals it has and in which order it asks for
  * them.
  *
- * Memory. Every pointer points to as many bytes as its parameter says, also where a length is 0: it is then any pointer
- * but NULL. Memory that a function writes to overlaps no other memory that it is lent. Memory that is `const` is
- * only read. Nothing is kept after the call, nothing is allocated, and no function has state: all may be called from
- * several threads at once. Numbers of more than one byte are big-endian.
+ * Memory. Every pointer points to as many bytes, or entries of a list, as its parameter says, also where that is 0: it is
+ * then any pointer but NULL. Memory that a function writes to overlaps no other memory that it is lent. Memory that is
+ * `const` is only read. Nothing is kept after the call, nothing is allocated, and no function has state: all may be called
+ * from several threads at once. Numbers of more than one byte are big-endian; but a list is one of numbers, `uint16_t`,
+ * in the machine's own order, at a place that suits them.
  *
  * A record of a controller is 10 bytes: n (1), mask (2), W (2), accepted K1 (1), accepted K2 (1), K1 last sent (1),
  * steps of wait left (2).
@@ -47,6 +48,8 @@ extern "C" {
 #define CHAINPLATER_ENCODED 2
 #define CHAINPLATER_STEP 17
 #define CHAINPLATER_VERDICT 3
+#define CHAINPLATER_CHANGES 2
+#define CHAINPLATER_CHANGE 3
 #define CHAINPLATER_CONTENTS 769
 #define CHAINPLATER_SIZE 4
 
@@ -106,6 +109,29 @@ uint8_t chainplater_step(const uint8_t record[CHAINPLATER_RECORD], uint8_t k1, u
  */
 uint8_t chainplater_judge(uint8_t n, uint16_t mask, uint16_t wait, const uint8_t *capture, size_t length,
                           uint8_t out[CHAINPLATER_VERDICT]);
+
+/*
+ * The list of the switches. A change is a step, counted from 0, whose sent K1 differs from that of the step before it; the one
+ * before step 0 counts as 00. The changes are listed in rising order, one an entry of the table. The first `listed` steps of
+ * the capture are listed already, in the first `count` entries; the changes among the other steps are put behind these. With 0
+ * for both the list is made afresh. `room` is the number of entries that the table has.
+ * Refusals, in this order: 8, 9; 13 if `listed` is more than the steps of the capture; 16 if the first `count` entries are not
+ * exactly the changes among the first `listed` steps, or the table has fewer than `count`; 12 if the table has fewer entries
+ * than the whole capture has changes.
+ * table: the entries from `count` on, up to the number of changes, are written, and no other; refused: all as it was.
+ * out: the number of changes of the whole capture (2); zeros where refused.
+ */
+uint8_t chainplater_switches(const uint8_t *capture, size_t length, uint16_t listed, uint16_t count, uint16_t *table,
+                             size_t room, uint8_t out[CHAINPLATER_CHANGES]);
+
+/*
+ * The last change of a capture at or before a step, looked up in the list of its changes, which has `count` entries.
+ * Refusals, in this order: 8, 9; 13 if the step, counted from 0, is not in the capture; 16 if the list is not that of the
+ * whole capture, also where it is right up to the step.
+ * out: 0 whether there is such a change (1 or 0), 1 and 2 its step; zeros where there is none, and where refused.
+ */
+uint8_t chainplater_last_change(const uint8_t *capture, size_t length, const uint16_t *list, size_t count,
+                                uint16_t step, uint8_t out[CHAINPLATER_CHANGE]);
 
 /*
  * The contents of a book. Refusals 20 to 24, in this order; then entry by entry 25, 31, 32, 26, 27, so that 27 of one

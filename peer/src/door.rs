@@ -11,12 +11,15 @@ pub const DECODED: usize = 6;
 pub const ENCODED: usize = 2;
 pub const STEP: usize = 17;
 pub const VERDICT: usize = 3;
+pub const CHANGES: usize = 2;
+pub const CHANGE: usize = 3;
 pub const CONTENTS: usize = 769;
 pub const SIZE: usize = 4;
 
 /// All of them fill what they are lent as the header says, and all but `k1`, which has
 /// nothing to refuse, answer the refusal, or 0. Where the header has K1 and K2 of a
-/// received pair, here is the pair.
+/// received pair, here is the pair; and where it has a list and how long that is, here
+/// is the list.
 pub trait Door: Sync {
     fn fresh(&self, n: u8, mask: u16, wait: u16, record: &mut [u8; RECORD]) -> u8;
 
@@ -45,6 +48,17 @@ pub trait Door: Sync {
     ) -> u8;
 
     fn judge(&self, n: u8, mask: u16, wait: u16, capture: &[u8], out: &mut [u8; VERDICT]) -> u8;
+
+    fn switches(
+        &self,
+        capture: &[u8],
+        listed: u16,
+        count: u16,
+        table: &mut [u16],
+        out: &mut [u8; CHANGES],
+    ) -> u8;
+
+    fn last_change(&self, capture: &[u8], list: &[u16], step: u16, out: &mut [u8; CHANGE]) -> u8;
 
     fn read(&self, book: &[u8], out: &mut [u8; CONTENTS]) -> u8;
 

@@ -95,6 +95,10 @@ impl Bits {
         bytes
     }
 
+    pub fn words(&mut self, length: usize) -> Vec<u16> {
+        (0..length).map(|_| self.draw() as u16).collect()
+    }
+
     /// The other generator, for what is made with it.
     pub fn draws(&mut self) -> Draws {
         Draws::from_seed(1 + self.draw() % 2_147_483_646)

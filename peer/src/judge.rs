@@ -42,13 +42,18 @@ pub fn judge(n: u8, mask: u16, wait: u16, capture: &[u8]) -> Result<Verdict, u8>
 /// The order of the checks is the paper's: 1, 2, 8, 9.
 fn admit(n: u8, mask: u16, wait: u16, capture: &[u8]) -> Result<(Record, &[Row]), u8> {
     let start = controller::fresh(n, mask, wait).map_err(controller::Refusal::number)?;
+    Ok((start, rows_of(capture)?))
+}
+
+/// The steps of a capture, unless it is refused: by 8, and then by 9.
+pub fn rows_of(capture: &[u8]) -> Result<&[Row], u8> {
     let (rows, []) = capture.as_chunks() else {
         return Err(NOT_WHOLE_STEPS);
     };
     if capture.len() > MOST_BYTES {
         return Err(TOO_LONG);
     }
-    Ok((start, rows))
+    Ok(rows)
 }
 
 fn explain(start: Record, rows: &[Row], causes: &[Cause]) -> Verdict {

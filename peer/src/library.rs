@@ -3,13 +3,16 @@
 //!
 //! What the header asks of a caller follows from the types of the wrappers. Every
 //! pointer comes from a reference, so none is null, not even of an empty slice; it
-//! points to as many bytes as its parameter says, because arrays have that length
-//! and slices go with theirs. What is written to is lent by `&mut`, so it overlaps
-//! nothing else. The library keeps nothing after a call and has no state.
+//! points to as many bytes, or entries of a list, as its parameter says, because
+//! arrays have that length and slices go with theirs; and a list of `u16` is where such
+//! numbers may be. What is written to is lent by `&mut`, so it overlaps nothing else.
+//! The library keeps nothing after a call and has no state.
 
 #![allow(unsafe_code)]
 
-use crate::door::{Door, CONTENTS, DECODED, ENCODED, K1, RECORD, SIZE, STEP, VERDICT};
+use crate::door::{
+    Door, CHANGE, CHANGES, CONTENTS, DECODED, ENCODED, K1, RECORD, SIZE, STEP, VERDICT,
+};
 
 /// As in the header, with its `size_t` as `usize`.
 mod declared {
@@ -46,6 +49,25 @@ mod declared {
             wait: u16,
             capture: *const u8,
             length: usize,
+            out: *mut u8,
+        ) -> u8;
+
+        pub fn chainplater_switches(
+            capture: *const u8,
+            length: usize,
+            listed: u16,
+            count: u16,
+            table: *mut u16,
+            room: usize,
+            out: *mut u8,
+        ) -> u8;
+
+        pub fn chainplater_last_change(
+            capture: *const u8,
+            length: usize,
+            list: *const u16,
+            count: usize,
+            step: u16,
             out: *mut u8,
         ) -> u8;
 
@@ -135,6 +157,47 @@ impl Door for Library {
         // SAFETY: `capture` has the `length` bytes that are read, `out` the 3 that
         // are written; they do not overlap.
         unsafe { declared::chainplater_judge(n, mask, wait, start, length, out.as_mut_ptr()) }
+    }
+
+    #[inline]
+    fn switches(
+        &self,
+        capture: &[u8],
+        listed: u16,
+        count: u16,
+        table: &mut [u16],
+        out: &mut [u8; CHANGES],
+    ) -> u8 {
+        // SAFETY: `capture` has the `length` bytes that are read, `table` the `room`
+        // entries that are read and written, `out` the 2 bytes that are written; neither
+        // of these two overlaps any other.
+        unsafe {
+            declared::chainplater_switches(
+                capture.as_ptr(),
+                capture.len(),
+                listed,
+                count,
+                table.as_mut_ptr(),
+                table.len(),
+                out.as_mut_ptr(),
+            )
+        }
+    }
+
+    #[inline]
+    fn last_change(&self, capture: &[u8], list: &[u16], step: u16, out: &mut [u8; CHANGE]) -> u8 {
+        // SAFETY: `capture` has the `length` bytes and `list` the `count` entries that
+        // are read, `out` the 3 bytes that are written; it overlaps neither.
+        unsafe {
+            declared::chainplater_last_change(
+                capture.as_ptr(),
+                capture.len(),
+                list.as_ptr(),
+                list.len(),
+                step,
+                out.as_mut_ptr(),
+            )
+        }
     }
 
     #[inline]

@@ -1,5 +1,5 @@
 //! A second reading of the scope paper (01), with what is in force of the change
-//! requests (02): c, d, f, j, and b, which changes nothing that is answered.
+//! requests (02): c, d, e, f, j, and b, which changes nothing that is answered.
 //!
 //! Everything here was written from the papers alone, and `door` and `library` from
 //! `include/chainplater.h` besides. None of it comes from the Rattle source, by
@@ -7,14 +7,17 @@
 //! with each other and prove nothing. Every landing that changes this package
 //! keeps it that way.
 //!
-//! Seven points were not reached so: what `pair::rank` answers for a channel that
+//! Eleven points were not reached so: what `pair::rank` answers for a channel that
 //! no group has, and `book::body` for an entry whose body is not all in the
 //! book; that 31 and 32 come right behind 25, in 02, f, and so before 26 of their
 //! entry; that a request was last sent, in 02 d, if the step before sent it, and no
 //! earlier one; that conditions are refused, in 02, c, as they are handed in, with
-//! an alarm as without; the byte that tells of an alarm; and that, in 02, j, a 0
-//! stands for what a K1 value does not have. The third and the fourth take 02 at its
-//! word, and on the others the papers are silent. What is answered was settled for
+//! an alarm as without; the byte that tells of an alarm; that, in 02, j, a 0 stands
+//! for what a K1 value does not have; that, in 02, e, 16 also stands for a table that
+//! has fewer entries than are said to be listed; that it comes before 12; that a list
+//! is looked up in only if it is that of the whole capture; and what `switches` prints,
+//! names and all. The third and the fourth take 02 at its word, as the order of 16 and
+//! 12 does, and on the others the papers are silent. What is answered was settled for
 //! both programs, and their agreement on it is no evidence.
 //!
 //! Nor was the closed form of `judge::scan`, which requests can be sent in a step,
@@ -23,8 +26,9 @@
 //!
 //! The programs are compared by what they print: `sequences` for the byte pair and
 //! the controller, `trials` for the capture book, `k1` for what is said of each K1
-//! value. For the judge there is a program of its own on the other side, so `books`
-//! runs it on many books and compares what it prints with what `judge` prints here.
+//! value. For the judge and for the list of switches there are programs of their own
+//! on the other side, so `books` and `lists` run them on many books and compare what
+//! they print with what `judge` and `switches` print here.
 //!
 //! The proved library is linked, and called with the same arguments as this
 //! reading: `compare` looks for differences in what they answer and in all they
@@ -52,9 +56,11 @@ mod library;
 #[cfg(not(linked))]
 #[path = "library/missing.rs"]
 mod library;
+mod lists;
 mod pair;
 mod sequences;
 mod settings;
+mod switches;
 mod trials;
 
 use library::Library;
@@ -63,8 +69,9 @@ use std::io::{self, BufWriter, StdoutLock, Write};
 use std::path::Path;
 use std::process::ExitCode;
 
-const USAGE: &str =
-    "usage: peer sequences | trials | k1 | judge | books [PROGRAM] | compare | bench";
+const USAGE: &str = "\
+usage: peer sequences | trials | k1 | judge | switches
+       peer books [PROGRAM] | lists [PROGRAM] | compare | bench";
 
 const MISSING: &str = "\
 peer: built without target/staticlib/libchainplater.a, which is for x86-64 alone
@@ -80,8 +87,13 @@ fn main() -> ExitCode {
         [word] if word == "trials" => finish(print(trials::write)),
         [word] if word == "k1" => finish(print(pair::values::write)),
         [word] if word == "judge" => finish(print(|out| judge::table::write(io::stdin(), out))),
+        [word] if word == "switches" => {
+            finish(print(|out| switches::table::write(io::stdin(), out)))
+        }
         [word] if word == "books" => compare_books(Path::new(books::USUAL_PROGRAM)),
         [word, program] if word == "books" => compare_books(Path::new(program)),
+        [word] if word == "lists" => compare_lists(Path::new(lists::USUAL_PROGRAM)),
+        [word, program] if word == "lists" => compare_lists(Path::new(program)),
         [word] if word == "compare" => with_library(compare_library),
         [word] if word == "bench" => with_library(bench_library),
         _ => {
@@ -110,11 +122,20 @@ fn finish(printed: io::Result<()>) -> ExitCode {
 fn compare_books(program: &Path) -> ExitCode {
     match books::compare(program) {
         Ok(finding) => report(finding.clean, &finding.text),
-        Err(error) => {
-            complain(&format!("peer: cannot run {}: {error}", program.display()));
-            ExitCode::from(2)
-        }
+        Err(error) => cannot_run(program, &error),
     }
+}
+
+fn compare_lists(program: &Path) -> ExitCode {
+    match lists::compare(program) {
+        Ok(finding) => report(finding.clean, &finding.text),
+        Err(error) => cannot_run(program, &error),
+    }
+}
+
+fn cannot_run(program: &Path, error: &io::Error) -> ExitCode {
+    complain(&format!("peer: cannot run {}: {error}", program.display()));
+    ExitCode::from(2)
 }
 
 fn compare_library(library: &Library) -> ExitCode {

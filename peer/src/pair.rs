@@ -113,7 +113,7 @@ impl Request {
     ];
 
     /// Takes the whole byte, so that a code of more than four bits is none.
-    fn from_code(code: u8) -> Option<Self> {
+    pub(crate) fn from_code(code: u8) -> Option<Self> {
         Self::ALL.into_iter().find(|request| request.code() == code)
     }
 
@@ -246,7 +246,7 @@ pub(crate) fn read_k1(n: u8, k1: u8) -> Result<(Request, u8), Mark> {
     }
 }
 
-fn nibbles(byte: u8) -> (u8, u8) {
+pub(crate) fn nibbles(byte: u8) -> (u8, u8) {
     (byte >> 4, byte & 0b1111)
 }
 

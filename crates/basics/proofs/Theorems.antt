@@ -3,17 +3,18 @@ use mathlib.Core.Path.{_≡_}
 use mathlib.Core.Bool.{Bool, true, false}
 use mathlib.Core.List.{List, _++_}
 use mathlib.Core.Logic.{_↔_}
-use Prim.Native.Nat.{ℕ, _+_, _≤_, _<_}
+use Prim.Native.Nat.{ℕ, _+_, _%_, _≤_, _<_}
 use lib.ListN.{length, getD, take, drop}
 use lib.Seq.{sets}
 use denote.Ref.{now}
+use Rattle.basics.specs.Capture.{most, sizeFaults}
 use Rattle.basics.specs.First.{CheckFor, Check, firstOr, appliesAt, answerOr, FirstAt, firstOf}
 use Rattle.basics.specs.Answer.{Answers}
 use Rattle.basics.specs.Bytes.{twoAt, fourAt, twoBytes, fourBytes}
 use Rattle.basics.specs.Fields.{Width, sizeOf, fieldsAt, fieldBytes}
 use Rattle.basics.specs.Settings.{sectionsFit, maskFits, settingsChecks}
 use Rattle.basics.specs.Table.{every, values}
-use Rattle.basics.proofs.Fitting.{settings-fit, fit-settings}
+use Rattle.basics.proofs.Fitting.{settings-fit, fit-settings, size-fits, fit-size}
 use Rattle.basics.proofs.Table.{at-entry, entry-is}
 use Rattle.basics.proofs.First.{first-given, first-shown, others, none-of, CountedFrom, first-exact, numbered, none-exact}
 use Rattle.basics.proofs.Bytes.{two-back, four-back}
@@ -43,6 +44,10 @@ use Rattle.basics.proofs.settings.settings_refusal.Kinds as settings-re
 use Rattle.basics.proofs.settings.settings_refusal.Reads as settings-refusal
 use Rattle.basics.proofs.settings.settings_refusal.Statement as settings-refusal-statement
 use Rattle.basics.proofs.settings.settings_refusal.Met as settings-refusal-met
+use Rattle.basics.proofs.capture.size_refusal.Kinds as size-refusal-kinds
+use Rattle.basics.proofs.capture.size_refusal.Reads as size-refusal
+use Rattle.basics.proofs.capture.size_refusal.Statement as size-refusal-statement
+use Rattle.basics.proofs.capture.size_refusal.Met as size-refusal-met
 
 -- Each public function answers, and leaves in the memory that it was lent, what its definition says, for every input.
 -- (`statement` is the contract, as the checker reads it off the source; it asks nothing of the caller.)
@@ -63,6 +68,9 @@ sections-fit-right = sections-fit-met.met
 
 settings-refusal-right : {M : Type 1} → settings-refusal-statement.statement M
 settings-refusal-right = settings-refusal-met.met
+
+size-refusal-right : {M : Type 1} → size-refusal-statement.statement M
+size-refusal-right = size-refusal-met.met
 
 -- A number that was written where it has room is read back.
 two-right : (bytes : List ℕ) (at v : ℕ) → at + 1 < length bytes → twoAt (sets bytes at (twoBytes v)) at ≡ v
@@ -126,6 +134,13 @@ settings-complete : (first second n mask : ℕ) → sectionsFit n ≡ true → m
     → firstOf (settingsChecks first second n mask) ≡ 0
 settings-complete = fit-settings
 
+-- A capture's size is refused with nothing exactly if it is whole steps and at most 65,536 bytes.
+size-right : (size : ℕ) → firstOf (sizeFaults size) ≡ 0 → (size % 4 ≡ 0) × (size ≤ most)
+size-right = size-fits
+
+size-complete : (size : ℕ) → size % 4 ≡ 0 → size ≤ most → firstOf (sizeFaults size) ≡ 0
+size-complete = fit-size
+
 -- Two answers that the promise of an enum allows are equal.
 answer-unique : {A B : Type 0} {told : A → B} {caseOf : B → A} {right : B} {x y : A}
     → Answers told caseOf right x → Answers told caseOf right y → x ≡ y
@@ -150,3 +165,6 @@ sections-fit-unique κs args x y s t p q = one-value p q
 
 settings-refusal-unique : OneAnswer 0 settings-refusal-kinds.ps settings-refusal-kinds.r settings-refusal.Post
 settings-refusal-unique κs args x y s t p q = one-value p q
+
+size-refusal-unique : OneAnswer 0 size-refusal-kinds.ps size-refusal-kinds.r size-refusal.Post
+size-refusal-unique κs args x y s t p q = one-value p q

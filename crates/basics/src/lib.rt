@@ -1,5 +1,6 @@
 // Numbers of two and of four bytes, big-endian, read from a slice and written to one. Every place is taken: a byte
-// past the end reads as 0, and is not written. Whether settings fit is in `settings`.
+// past the end reads as 0, and is not written. Whether settings fit is in `settings`, whether a capture's size does in `capture`.
+pub mod capture;
 pub mod settings;
 
 ghost use mathlib.Core.Path.{_≡_};

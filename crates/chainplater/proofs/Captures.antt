@@ -1,4 +1,5 @@
--- The captures of a book that was read: from their settings a fresh record is made, and the judge refuses none of them.
+-- The captures of a book that was read: from their settings a fresh record is made, the judge refuses none of them, and
+-- neither is the list of their changes refused.
 use mathlib.Core.Path.{_≡_, ap}
 use mathlib.Core.Bool.{true, and-eq-true-iff}
 use mathlib.Core.List.{List}
@@ -14,6 +15,8 @@ use Rattle.basics.proofs.Fitting.{fit-settings}
 use Rattle.basics.proofs.Table.{at-entry}
 use Rattle.controller.specs.Settings.{fresh, settingsFaults, making}
 use Rattle.explain.specs.Verdict.{Judging, judgeFaults, Right}
+use Rattle.switches.specs.Extend.{extending}
+use Rattle.switches.proofs.Grown.{afresh-all}
 use Rattle.book.specs.Format.{settingsFit, bodyOf, noEntry}
 use Rattle.book.specs.Reader.{reading}
 use Rattle.book.specs.Writer.{counted}
@@ -61,3 +64,6 @@ module _ (book : List ℕ) (none : reading book .refusal ≡ 0) (i : ℕ) (h : i
   capture-judged j right =
       ⊎-elim (λ found. ap (λ (a : Judging). a .refusal) (found .0)) (λ found. ap (λ (a : Judging). a .refusal) (found .1))
       (rw judge-unrefused at right)
+
+  pub capture-listed : (table : List ℕ) → 16384 ≤ length table → extending (bodyOf book entry) 0 0 table .refusal ≡ 0
+  capture-listed table = afresh-all (bodyOf book entry) table (whole .0) (whole .1)

@@ -2,10 +2,10 @@
 use mathlib.Core.Path.{_≡_, refl}
 use mathlib.Core.Bool.{Bool, true}
 use mathlib.Core.List.{List, _∷_, _++_}
-use Prim.Native.Nat.{ℕ, _<_}
+use Prim.Native.Nat.{ℕ, _≤_, _<_}
 use lib.ListN.{length, getD, replicate}
 use denote.Ref.{now}
-use Rattle.basics.specs.Bytes.{fourBytes}
+use Rattle.basics.specs.Bytes.{twoBytes, fourBytes}
 use Rattle.basics.specs.Settings.{sectionsFit}
 use Rattle.basics.proofs.One.{OneAnswer, OneContent, one-value}
 use Rattle.pair.specs.declared.Value.{Value}
@@ -15,6 +15,8 @@ use Rattle.controller.specs.Step.{step}
 use Rattle.controller.specs.declared.Controller.{Controller}
 use Rattle.controller.specs.declared.Outcome.{Outcome}
 use Rattle.explain.specs.Verdict.{Judging, Right}
+use Rattle.switches.specs.Extend.{extending}
+use Rattle.switches.specs.LastChange.{Looked}
 use Rattle.book.specs.Format.{contentsIn, bytesOf, bodyOf, noEntry}
 use Rattle.book.specs.Reader.{reading}
 use Rattle.book.specs.Writer.{counted, writing, output}
@@ -22,10 +24,11 @@ use Rattle.book.proofs.Laid.{length-listed}
 use Rattle.book.proofs.Trips.{contents-back, read-places}
 use Rattle.chainplater.specs.Coder.{valueBytes, flag, decodedBytes, encodedBytes, encodingBytes}
 use Rattle.chainplater.specs.Record.{recordIn, recordBytes, outcomeBytes}
+use Rattle.chainplater.specs.Switches.{lookedBytes}
 use Rattle.chainplater.specs.Verdict.{judgingBytes}
 use Rattle.chainplater.proofs.Bytes.{record-size, outcome-size, record-back, record-again, refused-bytes}
 use Rattle.chainplater.proofs.Bytes.{refused-write, flag-taken, flag-refused, same-refusal, same-bytes}
-use Rattle.chainplater.proofs.Captures.{capture-fresh, capture-judged}
+use Rattle.chainplater.proofs.Captures.{capture-fresh, capture-judged, capture-listed}
 use Rattle.chainplater.proofs.chainplater_fresh.Kinds as fresh-kinds
 use Rattle.chainplater.proofs.chainplater_fresh.Reads as fresh-fn
 use Rattle.chainplater.proofs.chainplater_fresh.Statement as fresh-statement
@@ -50,6 +53,14 @@ use Rattle.chainplater.proofs.chainplater_judge.Kinds as judge-kinds
 use Rattle.chainplater.proofs.chainplater_judge.Reads as judge-fn
 use Rattle.chainplater.proofs.chainplater_judge.Statement as judge-statement
 use Rattle.chainplater.proofs.chainplater_judge.Met as judge-met
+use Rattle.chainplater.proofs.chainplater_switches.Kinds as switches-kinds
+use Rattle.chainplater.proofs.chainplater_switches.Reads as switches-fn
+use Rattle.chainplater.proofs.chainplater_switches.Statement as switches-statement
+use Rattle.chainplater.proofs.chainplater_switches.Met as switches-met
+use Rattle.chainplater.proofs.chainplater_last_change.Kinds as last-change-kinds
+use Rattle.chainplater.proofs.chainplater_last_change.Reads as last-change-fn
+use Rattle.chainplater.proofs.chainplater_last_change.Statement as last-change-statement
+use Rattle.chainplater.proofs.chainplater_last_change.Met as last-change-met
 use Rattle.chainplater.proofs.chainplater_read.Kinds as read-kinds
 use Rattle.chainplater.proofs.chainplater_read.Reads as read-fn
 use Rattle.chainplater.proofs.chainplater_read.Statement as read-statement
@@ -78,6 +89,12 @@ step-right = step-met.met
 
 judge-right : {M : Type 1} → judge-statement.statement M
 judge-right = judge-met.met
+
+switches-right : {M : Type 1} → switches-statement.statement M
+switches-right = switches-met.met
+
+last-change-right : {M : Type 1} → last-change-statement.statement M
+last-change-right = last-change-met.met
 
 read-right : {M : Type 1} → read-statement.statement M
 read-right = read-met.met
@@ -120,6 +137,21 @@ judge-unique κs args x y s t p q = same-refusal p q
 judged-unique : OneContent 2 judge-kinds.ps judge-kinds.r judge-fn.Post (λ κs exit. now (exit .1 .1 .1 .1 .0))
 judged-unique κs args x y s t p q = same-bytes p q
 
+switches-unique : OneAnswer 3 switches-kinds.ps switches-kinds.r switches-fn.Post
+switches-unique κs args x y s t p q = one-value (p .0) (q .0)
+
+table-unique : OneContent 3 switches-kinds.ps switches-kinds.r switches-fn.Post (λ κs exit. now (exit .1 .1 .1 .0))
+table-unique κs args x y s t p q = one-value (p .1 .0) (q .1 .0)
+
+changes-unique : OneContent 3 switches-kinds.ps switches-kinds.r switches-fn.Post (λ κs exit. now (exit .1 .1 .1 .1 .0))
+changes-unique κs args x y s t p q = one-value (p .1 .1) (q .1 .1)
+
+last-change-unique : OneAnswer 3 last-change-kinds.ps last-change-kinds.r last-change-fn.Post
+last-change-unique κs args x y s t p q = one-value (p .0) (q .0)
+
+change-unique : OneContent 3 last-change-kinds.ps last-change-kinds.r last-change-fn.Post (λ κs exit. now (exit .1 .1 .1 .0))
+change-unique κs args x y s t p q = one-value (p .1) (q .1)
+
 read-unique : OneAnswer 2 read-kinds.ps read-kinds.r read-fn.Post
 read-unique κs args x y s t p q = one-value (p .0) (q .0)
 
@@ -153,6 +185,12 @@ stepped-long = outcome-size
 
 judged-long : (j : Judging) → length (judgingBytes j) ≡ 3
 judged-long j = refl
+
+changes-long : (number : ℕ) → length (twoBytes number) ≡ 2
+changes-long number = refl
+
+change-long : (l : Looked) → length (lookedBytes l) ≡ 3
+change-long l = refl
 
 contents-long : (book : List ℕ) → length (bytesOf (reading book .contents)) ≡ 769
 contents-long book = length-listed (reading book .contents) (read-places book)
@@ -199,6 +237,13 @@ captures-judged : (book : List ℕ) → reading book .refusal ≡ 0
     let e = getD (counted (reading book .contents)) i noEntry in
     (j : Judging) → Right (e .n) (e .mask) (e .w) (bodyOf book e) j → j .refusal ≡ 0
 captures-judged = capture-judged
+
+-- Nor is a list of its changes, made afresh in a table of 16,384 entries, refused.
+captures-listed : (book : List ℕ) → reading book .refusal ≡ 0
+    → (i : ℕ) → i < length (counted (reading book .contents)) →
+    let e = getD (counted (reading book .contents)) i noEntry in
+    (table : List ℕ) → 16384 ≤ length table → extending (bodyOf book e) 0 0 table .refusal ≡ 0
+captures-listed = capture-listed
 
 -- A flag is encoded as it was decoded, and one that no pair decodes to has refusal 10, behind refusal 1.
 flag-right : (n code channel bridged : ℕ) (remote : Bool)

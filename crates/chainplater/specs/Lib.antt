@@ -2,3 +2,4 @@
 pub mod Record
 pub mod Coder
 pub mod Verdict
+pub mod Switches

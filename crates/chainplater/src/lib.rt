@@ -13,18 +13,23 @@ use pair::Decoded;
 use pair::Encoded;
 use pair::Pair;
 use pair::table::value_of;
-ghost use Rattle.basics.specs.Bytes.{fourBytes};
+use switches::Extending;
+use switches::Looking;
+ghost use Rattle.basics.specs.Bytes.{twoBytes, fourBytes};
 ghost use Rattle.book.specs.Format.{contentsIn, bytesOf};
 ghost use Rattle.book.specs.Reader.{reading};
 ghost use Rattle.book.specs.Writer.{writing, output};
 ghost use Rattle.chainplater.specs.Coder.{valueBytes, flag, decodedBytes, encodedBytes, encodingBytes};
 ghost use Rattle.chainplater.specs.Record.{recordIn, recordBytes, outcomeBytes};
+ghost use Rattle.chainplater.specs.Switches.{lookedBytes};
 ghost use Rattle.chainplater.specs.Verdict.{Judged};
 ghost use Rattle.controller.specs.Settings.{making};
 ghost use Rattle.controller.specs.Step.{step};
 ghost use Rattle.pair.specs.Coder.{decoding};
 ghost use Rattle.pair.specs.Request.{requests};
 ghost use Rattle.pair.specs.Table.{valueOf};
+ghost use Rattle.switches.specs.Extend.{extending, extended};
+ghost use Rattle.switches.specs.LastChange.{looking};
 ghost use lib.ListN.{length};
 ghost use mathlib.Core.Path.{_≡_};
 
@@ -157,6 +162,56 @@ pub extern "C" fn chainplater_judge(
             0
         }
         Verdict::Refused(k) => {
+            *out = [0, 0, 0];
+            k
+        }
+    }
+}
+
+#[no_mangle]
+pub extern "C" fn chainplater_switches(
+    capture: &[u8],
+    listed: u16,
+    count: u16,
+    table: &mut [u16],
+    out: &mut [u8; 2],
+) -> u8
+    ensures { λ r. ⌜ r ≡ extending (now (capture .entry)) listed count (now (table .entry)) .refusal ⌝ }
+    ensures { λ _. ⌜ now (table .exit) ≡ extended (now (capture .entry)) listed count (now (table .entry)) ⌝ }
+    ensures { λ _. ⌜ now (out .exit) ≡ twoBytes (extending (now (capture .entry)) listed count (now (table .entry)) .number) ⌝ }
+{
+    match switches::extend(capture, listed, count, table) {
+        Extending::Extended(number) => {
+            *out = [(number / 256) as u8, (number % 256) as u8];
+            0
+        }
+        Extending::Refused(k) => {
+            *out = [0, 0];
+            k
+        }
+    }
+}
+
+#[no_mangle]
+pub extern "C" fn chainplater_last_change(
+    capture: &[u8],
+    list: &[u16],
+    step: u16,
+    out: &mut [u8; 3],
+) -> u8
+    ensures { λ r. ⌜ r ≡ looking (now (capture .entry)) (now (list .entry)) step .refusal ⌝ }
+    ensures { λ _. ⌜ now (out .exit) ≡ lookedBytes (looking (now (capture .entry)) (now (list .entry)) step) ⌝ }
+{
+    match switches::last_change(capture, list, step) {
+        Looking::Change(last) => {
+            *out = [1, (last / 256) as u8, (last % 256) as u8];
+            0
+        }
+        Looking::NoChange => {
+            *out = [0, 0, 0];
+            0
+        }
+        Looking::Refused(k) => {
             *out = [0, 0, 0];
             k
         }

@@ -16,7 +16,7 @@ use Rattle.controller.specs.declared.Outcome.{Outcome}
 use Rattle.controller.proofs.Inputs.{WellFormed, well-formed}
 use Rattle.controller.proofs.Alarm.{alarm-step}
 use Rattle.controller.proofs.Keeping.{unrefused}
-use Rattle.explain.specs.Capture.{Row, row}
+use Rattle.basics.specs.Capture.{Row, row}
 use Rattle.explain.specs.Explained.{Cause, stepped, Sends}
 
 -- the row, had 00 08 been received

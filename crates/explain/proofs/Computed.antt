@@ -5,12 +5,13 @@ use mathlib.Core.List.{List, [], _∷_}
 use lib.Dec.{eqb}
 use lib.ListN.{length}
 use borrow.Author.Tests.{eqb-true}
+use Rattle.basics.specs.Capture.{sizeFaults}
 use Rattle.basics.specs.First.{firstOf}
 use Rattle.basics.specs.Table.{every}
 use Rattle.pair.specs.Request.{listed, carries, rankIn, rankOf}
 use Rattle.pair.specs.Marks.{finding, usable}
 use Rattle.controller.specs.Settings.{fresh}
-use Rattle.explain.specs.Verdict.{Judging, sizeFaults, Right}
+use Rattle.explain.specs.Verdict.{Judging, Right}
 use Rattle.explain.specs.Lines.{Line, _is_, lines, AllRight}
 use Rattle.explain.specs.Cause.{arises, unseen, answers}
 use Rattle.explain.specs.Trace.{next, scanned}

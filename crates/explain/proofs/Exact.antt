@@ -17,7 +17,7 @@ use Rattle.basics.specs.Settings.{sectionsFit, maskFits}
 use Rattle.controller.specs.Settings.{fresh}
 use Rattle.controller.specs.declared.Controller.{Controller}
 use Rattle.controller.proofs.Keeping.{fresh-acceptable}
-use Rattle.explain.specs.Capture.{Row, rowsOf}
+use Rattle.basics.specs.Capture.{Row, rowsOf}
 use Rattle.explain.specs.Explained.{Cause, stepped, Sends, Explains, Explained}
 use Rattle.explain.specs.Verdict.{Judging, explainedAt, unexplainedAt, told, judgeFaults, Found, Right}
 use Rattle.explain.specs.Scan.{Scanned, all, first, scanFrom}

@@ -12,16 +12,10 @@ use Rattle.basics.proofs.First.{none-exact, none-both, first-behind, first-befo
 use Rattle.basics.proofs.Fitting.{settings-fit}
 use Rattle.basics.specs.Settings.{sectionsFit, maskFits}
 use Rattle.controller.specs.Settings.{fresh, settingsFaults}
-use Rattle.explain.specs.Capture.{rowsOf}
-use Rattle.explain.specs.Verdict.{Judging, refusedBy, sizeFaults, judgeFaults, most, Right}
+use Rattle.basics.specs.Capture.{rowsOf, sizeFaults}
+use Rattle.explain.specs.Verdict.{Judging, refusedBy, judgeFaults, Right}
 use Rattle.explain.specs.Trace.{start, Fit, scanned}
 use Rattle.explain.proofs.Exact.{scan-right}
-
--- what refusals 8 and 9 leave of a capture's size
-pub size-fits : (size : ℕ) → firstOf (sizeFaults size) ≡ 0 → (size % 4 ≡ 0) × (size ≤ most)
-size-fits size h =
-    let none = none-exact (sizeFaults size) refl .0 h in
-    (eqb-true (size % 4) 0 (not-false (eqb (size % 4) 0) (none 0)), ltb-false most size (none 1))
 
 -- the scan begins with a fresh record, whose K1 values have channel 0
 pub fresh-fit : (n mask w : ℕ) → sectionsFit n ≡ true → Fit (start (fresh n mask w))

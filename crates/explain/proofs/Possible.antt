@@ -14,7 +14,7 @@ use Rattle.controller.specs.Settings.{idleK1, idleK2}
 use Rattle.controller.specs.Rules.{asked}
 use Rattle.controller.specs.Step.{waitOf}
 use Rattle.controller.specs.declared.Controller.{Controller}
-use Rattle.explain.specs.Capture.{Row}
+use Rattle.basics.specs.Capture.{Row}
 use Rattle.explain.specs.Explained.{Cause, stepped, Sends}
 use Rattle.explain.specs.Trace.{idled, live, opens, localIn, hiddenIn, recordAfter, acceptedByte, next}
 use Rattle.explain.specs.declared.Records.{Records}

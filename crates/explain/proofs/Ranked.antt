@@ -10,7 +10,7 @@ use Rattle.pair.proofs.Looking.{carried-most, rank-looked}
 use Rattle.pair.proofs.Coding.{usable-parts}
 use Rattle.request.specs.declared.Request.{Request}
 use Rattle.controller.specs.Rules.{asked, isCommand, held, rankOfRequest}
-use Rattle.explain.specs.Capture.{Row}
+use Rattle.basics.specs.Capture.{Row}
 use Rattle.explain.specs.Cause.{commandedAt, commanded, answers}
 use Rattle.explain.specs.Trace.{live, opensAt, acceptedByte, nextWith, next, Fit}
 use Rattle.explain.specs.declared.Records.{Records}

@@ -26,7 +26,7 @@ use Rattle.controller.proofs.Inputs.{WellFormed, well-formed}
 use Rattle.controller.proofs.Sendable.{Sendable, sendable-room}
 use Rattle.controller.proofs.Sending.{sent-sendable}
 use Rattle.controller.proofs.Keeping.{k1-back, not-refused, step-keeps, step-unrefused}
-use Rattle.explain.specs.Capture.{Row}
+use Rattle.basics.specs.Capture.{Row}
 use Rattle.explain.specs.Explained.{Cause, stepped, Sends}
 use Rattle.explain.specs.Cause.{commanded, unseen, answers}
 use Rattle.explain.specs.Trace.{secondFits, opens, localIn, hiddenIn, recordAfter, acceptedByte}

@@ -17,7 +17,7 @@ use Rattle.controller.specs.Rules.{noRequest}
 use Rattle.controller.specs.Refusals.{acceptable}
 use Rattle.controller.specs.Step.{protection}
 use Rattle.controller.specs.declared.Controller.{Controller}
-use Rattle.explain.specs.Capture.{Row, row, rowsOf}
+use Rattle.basics.specs.Capture.{Row, row, rowsOf}
 use Rattle.explain.specs.Explained.{Cause, stepped, Sends, Explained}
 use Rattle.explain.specs.Verdict.{Judging, explainedAt, unexplainedAt, refusedBy, judgeFaults, Right}
 use Rattle.explain.specs.Lines.{lines, AllRight}

@@ -7,8 +7,7 @@ use native.Mathlib.Numerals.{add-one}
 use native.Mathlib.Omega.{arith}
 use lib.ListN.{length, getD, drop, drop-of-length-le}
 use lib.Seq.{drop-cons}
-use Rattle.explain.specs.Capture.{Row, row, rowsOf}
-use Rattle.explain.specs.Verdict.{most}
+use Rattle.basics.specs.Capture.{Row, row, rowsOf, most}
 use Rattle.explain.specs.Scan.{all, first, scanFrom}
 use Rattle.explain.specs.Trace.{live, next, Fit, verdictOf}
 use Rattle.explain.specs.declared.Records.{Records}

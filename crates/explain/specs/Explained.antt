@@ -6,7 +6,7 @@ use Rattle.controller.specs.Settings.{fresh}
 use Rattle.controller.specs.Step.{step}
 use Rattle.controller.specs.declared.Controller.{Controller}
 use Rattle.controller.specs.declared.Outcome.{Outcome}
-use Rattle.explain.specs.Capture.{Row}
+use Rattle.basics.specs.Capture.{Row}
 
 -- what nobody sees of a step: the condition of each section, and one command with its channel
 pub record Cause : Type 0 where

@@ -1,6 +1,5 @@
--- To be believed, in the order of document 01: what a capture is, what it is for it to be explained, the verdict, the judge
--- lines.
-pub mod Capture
+-- To be believed, in the order of document 01: what it is for a capture to be explained, the verdict, the judge lines. What a
+-- capture is stands in `basics`.
 pub mod Explained
 pub mod Verdict
 pub mod Lines

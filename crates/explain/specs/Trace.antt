@@ -16,7 +16,7 @@ use Rattle.controller.specs.Settings.{idleK1, idleK2}
 use Rattle.controller.specs.Rules.{asked, held, leftAfter, keepsBridge, k2Of}
 use Rattle.controller.specs.Step.{waitOf}
 use Rattle.controller.specs.declared.Controller.{Controller}
-use Rattle.explain.specs.Capture.{Row, rowsOf}
+use Rattle.basics.specs.Capture.{Row, rowsOf}
 use Rattle.explain.specs.Cause.{commanded, arises, unseen, answersAt, answers}
 use Rattle.explain.specs.Scan.{Scanned, all, first, scanFrom}
 use Rattle.explain.specs.Verdict.{Judging, explainedAt, unexplainedAt}

@@ -1,15 +1,14 @@
 -- What the judge answers (01, 'The judge' and 'Numbered refusals').
 use mathlib.Core.Path.{_≡_}
-use mathlib.Core.Bool.{not}
-use mathlib.Core.List.{List, [], _∷_, _++_}
+use mathlib.Core.List.{List, _++_}
 use mathlib.Core.Logic.{_⊎_}
-use Prim.Native.Nat.{ℕ, _+_, _%_}
-use lib.Dec.{ltb, eqb}
+use Prim.Native.Nat.{ℕ, _+_}
+use lib.Dec.{eqb}
 use lib.ListN.{length, take}
 use Rattle.basics.specs.Choice.{if_then_else_}
-use Rattle.basics.specs.First.{Check, _when_, firstOf}
+use Rattle.basics.specs.First.{Check, firstOf}
 use Rattle.controller.specs.Settings.{settingsFaults}
-use Rattle.explain.specs.Capture.{Row, rowsOf}
+use Rattle.basics.specs.Capture.{Row, rowsOf, sizeFaults}
 use Rattle.explain.specs.Explained.{Explained}
 use Rattle.explain.specs.declared.Verdict.{Verdict}
 use Rattle.explain.specs.declared.Verdict.the-variants as verdict
@@ -35,14 +34,6 @@ abbrev pub told : Verdict → Judging
 told (verdict.Explained k) = explainedAt k
 told (verdict.Unexplained i) = unexplainedAt i
 told (verdict.Refused k) = refusedBy k
-
--- bytes of a capture
-abbrev pub most : ℕ
-most = 65536
-
--- refusals 8 and 9
-abbrev pub sizeFaults : ℕ → List Check
-sizeFaults size = (8 when not (eqb (size % 4) 0)) ∷ (9 when ltb most size) ∷ []
 
 -- refusals 1, 2, 8, 9, in this order
 abbrev pub judgeFaults : ℕ → ℕ → ℕ → List Check

@@ -1,10 +1,9 @@
 // The judge of captured lines (01, 'The judge'). It sees bytes alone.
-mod capture;
 mod cause;
 mod trace;
 
-use crate::capture::size_refusal;
 use crate::trace::scan;
+use basics::capture::size_refusal;
 use controller::Controller;
 use controller::Made;
 ghost use Rattle.explain.specs.Verdict.{told, Right};

@@ -1,12 +1,12 @@
 // What is printed of a book: a line for each capture, or the book's refusal (01, 'Sequences on both sides').
-use crate::page::put;
-use crate::page::put_number;
 use book::Contents;
 use book::Entry;
 use book::body;
 use book::read;
 use explain::Verdict;
 use explain::judge;
+use page::put;
+use page::put_number;
 ghost use Prim.Native.Nat.{_≤_};
 
 fn put_field(page: &mut [u8], at: usize, v: u64) -> usize {

@@ -5,6 +5,7 @@ mod books;
 mod captures;
 mod clock;
 mod steps;
+mod switches;
 
 use crate::books::capture::Settings;
 use crate::door::Door;
@@ -93,6 +94,7 @@ pub fn write(library: &impl Door, out: &mut impl Write) -> io::Result<()> {
     out.flush()?;
     write_rows(out, steps::rows(library)?)?;
     write_rows(out, captures::rows(library)?)?;
+    write_rows(out, switches::rows(library)?)?;
     write_rows(out, books::rows(library)?)
 }
 
@@ -191,12 +193,13 @@ mod tests {
         assert!(work().measure(|| 1, || 1).is_ok());
     }
 
-    /// What is timed is what it is meant to be: walks that no refusal stops, and
-    /// captures that are explained.
+    /// What is timed is what it is meant to be: walks that no refusal stops, captures
+    /// that are explained, and lists with as many changes as their rows say.
     #[test]
     fn the_work_is_not_refused() {
         steps::check(&Peer);
         captures::check(&Peer);
+        switches::check(&Peer);
         books::check(&Peer);
     }
 }

@@ -29,8 +29,8 @@ impl Kind {
 /// Something in which the programs do not agree.
 #[derive(Debug, PartialEq, Eq)]
 pub struct Difference {
-    /// The capture that is answered differently, if it is one.
-    pub capture: Option<usize>,
+    /// The line below the header that is not the same, if it is one.
+    pub row: Option<usize>,
     pub ours: String,
     pub theirs: String,
 }
@@ -57,18 +57,18 @@ pub fn compare(program: &Path, book: &[u8]) -> io::Result<Compared> {
 
 /// The table is all that is printed. The paper is silent on the exit status: here
 /// to print a table is a success, whatever the table says.
-fn differences(ours: &str, theirs: &Output) -> Vec<Difference> {
+pub fn differences(ours: &str, theirs: &Output) -> Vec<Difference> {
     let mut found = line_differences(ours.as_bytes(), &theirs.stdout);
     if !theirs.status.success() {
         found.push(Difference {
-            capture: None,
+            row: None,
             ours: "exit status: 0".into(),
             theirs: theirs.status.to_string(),
         });
     }
     if !theirs.stderr.is_empty() {
         found.push(Difference {
-            capture: None,
+            row: None,
             ours: "nothing on standard error".into(),
             theirs: shown(lines(&theirs.stderr).first()),
         });
@@ -83,8 +83,7 @@ fn line_differences(ours: &[u8], theirs: &[u8]) -> Vec<Difference> {
     (0..ours.len().max(theirs.len()))
         .filter(|&number| ours.get(number) != theirs.get(number))
         .map(|number| Difference {
-            // The header stands above the captures.
-            capture: number.checked_sub(1),
+            row: number.checked_sub(1),
             ours: shown(ours.get(number)),
             theirs: shown(theirs.get(number)),
         })
@@ -118,10 +117,10 @@ mod tests {
         }
     }
 
-    fn captures_differing(stdout: &str) -> Vec<Option<usize>> {
+    fn rows_differing(stdout: &str) -> Vec<Option<usize>> {
         differences(TABLE, &output(0, stdout, ""))
             .into_iter()
-            .map(|difference| difference.capture)
+            .map(|difference| difference.row)
             .collect()
     }
 
@@ -138,20 +137,20 @@ mod tests {
             assert!(!line_differences(TABLE.as_bytes(), &other).is_empty());
             assert!(!line_differences(TABLE.as_bytes(), &other[..place]).is_empty());
         }
-        assert!(!captures_differing(&TABLE.replace('\n', "\r\n")).is_empty());
-        assert!(!captures_differing(&format!("{TABLE}\n")).is_empty());
+        assert!(!rows_differing(&TABLE.replace('\n', "\r\n")).is_empty());
+        assert!(!rows_differing(&format!("{TABLE}\n")).is_empty());
     }
 
     #[test]
-    fn a_difference_names_the_capture() {
+    fn a_difference_names_the_line_below_the_header() {
         let wrong = TABLE.replace("explained 3", "unexplained 2");
         let expected = Difference {
-            capture: Some(0),
+            row: Some(0),
             ours: "\"0 2 3 explained 3\"".into(),
             theirs: "\"0 2 3 unexplained 2\"".into(),
         };
         assert_eq!(differences(TABLE, &output(0, &wrong, "")), [expected]);
-        assert_eq!(captures_differing("refused 20\n"), [None, Some(0), Some(1)]);
+        assert_eq!(rows_differing("refused 20\n"), [None, Some(0), Some(1)]);
     }
 
     #[test]

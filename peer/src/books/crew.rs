@@ -1,11 +1,7 @@
 //! All books, shared out among as many threads as there are processors.
 
-use super::compare::{compare, Compared};
-use super::report::Report;
-use super::Job;
 use std::io::{self, Write};
 use std::num::NonZero;
-use std::path::Path;
 use std::sync::atomic::{AtomicUsize, Ordering};
 use std::sync::mpsc::{self, Receiver, Sender};
 use std::thread;
@@ -13,23 +9,32 @@ use std::time::{Duration, Instant};
 
 const PROGRESS_EVERY: Duration = Duration::from_millis(250);
 
-/// A job's number, and what came of it.
-type Done = (usize, io::Result<Compared>);
+/// What all that was compared is put together in.
+pub trait Gather<T> {
+    /// What came of the job of that number.
+    fn add(&mut self, job: usize, compared: T);
 
-/// Ends with the first error, which is one of running the program. How far it
-/// has come is told to `progress`.
-pub fn compare_all(
-    program: &Path,
-    jobs: &[Job],
-    report: &mut Report,
+    /// What there is to say while it is not finished.
+    fn progress(&self) -> String;
+}
+
+/// A job's number, and what came of it.
+type Done<T> = (usize, io::Result<T>);
+
+/// Compares for so many jobs, each by its number. Ends with the first error, which is
+/// one of running the program. How far it has come is told to `progress`.
+pub fn compare_all<T: Send>(
+    jobs: usize,
+    compare: impl Fn(usize) -> io::Result<T> + Sync,
+    report: &mut impl Gather<T>,
     progress: &mut impl Write,
 ) -> io::Result<()> {
     let next = AtomicUsize::new(0);
     let (sender, done) = mpsc::channel();
     thread::scope(|scope| {
         for _ in 0..thread::available_parallelism().map_or(1, NonZero::get) {
-            let (next, sender) = (&next, sender.clone());
-            scope.spawn(move || work(program, jobs, next, &sender));
+            let (compare, next, sender) = (&compare, &next, sender.clone());
+            scope.spawn(move || work(jobs, compare, next, &sender));
         }
         // The channel ends when the last worker does.
         drop(sender);
@@ -38,69 +43,77 @@ pub fn compare_all(
 }
 
 /// Takes jobs until there are none left, or nobody wants to know.
-fn work(program: &Path, jobs: &[Job], next: &AtomicUsize, sender: &Sender<Done>) {
+fn work<T>(
+    jobs: usize,
+    compare: &impl Fn(usize) -> io::Result<T>,
+    next: &AtomicUsize,
+    sender: &Sender<Done<T>>,
+) {
     loop {
         let number = next.fetch_add(1, Ordering::Relaxed);
-        let Some(job) = jobs.get(number) else {
-            return;
-        };
-        let compared = compare(program, &job.book);
-        if sender.send((number, compared)).is_err() {
+        if number >= jobs || sender.send((number, compare(number))).is_err() {
             return;
         }
     }
 }
 
-fn gather(done: Receiver<Done>, report: &mut Report, progress: &mut impl Write) -> io::Result<()> {
+fn gather<T>(
+    done: Receiver<Done<T>>,
+    report: &mut impl Gather<T>,
+    progress: &mut impl Write,
+) -> io::Result<()> {
     let mut told = Instant::now();
     for (number, compared) in done {
         report.add(number, compared?);
         if told.elapsed() >= PROGRESS_EVERY {
             told = Instant::now();
-            tell(progress, report, "");
+            tell(progress, &report.progress(), "");
         }
     }
-    tell(progress, report, "\n");
+    tell(progress, &report.progress(), "\n");
     Ok(())
 }
 
 /// Over the same line again. That it cannot be written is no reason to stop.
-fn tell(progress: &mut impl Write, report: &Report, end: &str) {
-    let told = write!(progress, "\r{}{end}", report.progress());
+fn tell(progress: &mut impl Write, line: &str, end: &str) {
+    let told = write!(progress, "\r{line}{end}");
     let _ = told.and_then(|()| progress.flush());
 }
 
-#[cfg(all(test, unix))]
+#[cfg(test)]
 mod tests {
-    use super::super::compare::Kind;
-    use super::super::group;
     use super::*;
-    use crate::trials::PAPER_BOOK;
 
-    fn jobs() -> Vec<Job> {
-        let job = |_| Job {
-            group: 0,
-            book: PAPER_BOOK.to_vec(),
-        };
-        (0..20).map(job).collect()
+    #[derive(Default)]
+    struct Sum {
+        jobs: Vec<usize>,
+        total: usize,
+    }
+
+    impl Gather<usize> for Sum {
+        fn add(&mut self, job: usize, compared: usize) {
+            self.jobs.push(job);
+            self.total += compared;
+        }
+
+        fn progress(&self) -> String {
+            format!("{} of 20, {}", self.jobs.len(), self.total)
+        }
     }
 
     #[test]
     fn every_book_is_compared_once() {
-        let groups = [group("paper", &[Kind::Explained], Vec::new)];
-        let jobs = jobs();
-        let mut report = Report::new(&groups, &jobs);
+        let mut sum = Sum::default();
         let mut progress = Vec::new();
-        compare_all(Path::new("/bin/true"), &jobs, &mut report, &mut progress).unwrap();
-        let last = b"\r20 of 20 books, 40 captures, 80 differences\n";
-        assert!(progress.ends_with(last));
+        compare_all(20, |job| Ok(2 * job), &mut sum, &mut progress).unwrap();
+        sum.jobs.sort_unstable();
+        assert!(sum.jobs.into_iter().eq(0..20));
+        assert!(progress.ends_with(b"\r20 of 20, 380\n"));
     }
 
     #[test]
     fn a_program_that_cannot_be_run_ends_it() {
-        let jobs = jobs();
-        let mut report = Report::new(&[], &jobs);
-        let program = Path::new("no/such/program");
-        assert!(compare_all(program, &jobs, &mut report, &mut io::sink()).is_err());
+        let fail = |_| Err(io::Error::other("cannot be run"));
+        assert!(compare_all(20, fail, &mut Sum::default(), &mut io::sink()).is_err());
     }
 }

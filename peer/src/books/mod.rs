@@ -20,7 +20,11 @@ mod waits;
 
 use capture::bind;
 use compare::Kind;
+pub use compare::{differences, Difference};
+pub use crew::{compare_all, Gather};
+pub use process::run;
 use report::Report;
+pub use report::{captured, write_rows};
 use std::io;
 use std::path::Path;
 
@@ -79,16 +83,29 @@ pub struct Finding {
 /// Compares this reading with a program. The error is that of running it.
 pub fn compare(program: &Path) -> io::Result<Finding> {
     // A program that cannot be run shows here, before any book is made.
-    process::run(program, &[])?;
+    run(program, &[])?;
     let jobs = jobs();
     let mut report = Report::new(&GROUPS, &jobs);
-    crew::compare_all(program, &jobs, &mut report, &mut io::stderr())?;
+    let compare = |job: usize| compare::compare(program, &jobs[job].book);
+    compare_all(jobs.len(), compare, &mut report, &mut io::stderr())?;
     let mut text = Vec::new();
     report.write(&mut text)?;
     Ok(Finding {
         clean: report.is_clean(),
         text,
     })
+}
+
+/// The books of all groups whose captures are judged.
+pub fn sound() -> Vec<Vec<u8>> {
+    let [sound @ .., _] = &GROUPS;
+    sound.iter().flat_map(|group| (group.books)()).collect()
+}
+
+/// The books of the last group.
+pub fn damaged() -> Vec<Vec<u8>> {
+    let [.., damaged] = &GROUPS;
+    (damaged.books)()
 }
 
 fn jobs() -> Vec<Job> {

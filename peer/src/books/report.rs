@@ -1,6 +1,7 @@
 //! What the comparison comes to.
 
 use super::compare::{Compared, Difference, Kind};
+use super::crew::Gather;
 use super::{Group, Job};
 use crate::book::{self, Entry, STEP_BYTES};
 use std::io::{self, Write};
@@ -79,25 +80,6 @@ impl<'a> Report<'a> {
         }
     }
 
-    /// In whatever order the jobs are finished.
-    pub fn add(&mut self, job: usize, compared: Compared) {
-        self.counts[self.jobs[job].group].add(&compared.kinds);
-        let numbered = compared.differences.into_iter().map(|found| (job, found));
-        self.differences.extend(numbered);
-    }
-
-    /// What there is to say while it is not finished.
-    pub fn progress(&self) -> String {
-        let sum = Counts::sum(&self.counts);
-        format!(
-            "{} of {} books, {} captures, {} differences",
-            sum.books,
-            self.jobs.len(),
-            sum.captures(),
-            self.differences.len()
-        )
-    }
-
     pub fn is_clean(&self) -> bool {
         self.differences.is_empty() && self.shortcomings().is_empty()
     }
@@ -149,7 +131,8 @@ impl<'a> Report<'a> {
     ) -> io::Result<()> {
         let Job { group, book } = &self.jobs[job];
         let name = self.groups[*group].name;
-        match captured(book, difference.capture) {
+        // The captures stand below the header, one in a line.
+        match captured(book, difference.row) {
             Some((number, entry)) => {
                 let Entry { n, mask, w, .. } = entry;
                 writeln!(
@@ -168,15 +151,35 @@ impl<'a> Report<'a> {
     }
 }
 
+impl Gather<Compared> for Report<'_> {
+    /// In whatever order the jobs are finished.
+    fn add(&mut self, job: usize, compared: Compared) {
+        self.counts[self.jobs[job].group].add(&compared.kinds);
+        let numbered = compared.differences.into_iter().map(|found| (job, found));
+        self.differences.extend(numbered);
+    }
+
+    fn progress(&self) -> String {
+        let sum = Counts::sum(&self.counts);
+        format!(
+            "{} of {} books, {} captures, {} differences",
+            sum.books,
+            self.jobs.len(),
+            sum.captures(),
+            self.differences.len()
+        )
+    }
+}
+
 /// The capture that a difference is about, if the book has it.
-fn captured(book: &[u8], number: Option<usize>) -> Option<(usize, Entry)> {
+pub fn captured(book: &[u8], number: Option<usize>) -> Option<(usize, Entry)> {
     let contents = book::read(book).ok()?;
     let number = number?;
     let entry = contents.entries()?.get(number)?;
     Some((number, *entry))
 }
 
-fn write_rows(out: &mut impl Write, bytes: &[u8], row_bytes: usize) -> io::Result<()> {
+pub fn write_rows(out: &mut impl Write, bytes: &[u8], row_bytes: usize) -> io::Result<()> {
     let rows = bytes.chunks(row_bytes);
     let more = rows.len().saturating_sub(MOST_ROWS);
     for row in rows.take(MOST_ROWS) {
@@ -206,9 +209,9 @@ mod tests {
             .into()
     }
 
-    fn difference(capture: Option<usize>) -> Difference {
+    fn difference(row: Option<usize>) -> Difference {
         Difference {
-            capture,
+            row,
             ours: "this".into(),
             theirs: "that".into(),
         }
@@ -224,12 +227,12 @@ mod tests {
     fn differences_are_shown_in_full_and_in_order() {
         let jobs = jobs();
         let mut report = Report::new(&GROUPS, &jobs);
-        for (job, capture) in [(1, Some(0)), (0, Some(1))] {
+        for (job, row) in [(1, Some(0)), (0, Some(1))] {
             report.add(
                 job,
                 Compared {
                     kinds: vec![Kind::Explained, Kind::Unexplained],
-                    differences: vec![difference(capture)],
+                    differences: vec![difference(row)],
                 },
             );
         }

@@ -1,8 +1,11 @@
 //! Memory that is lent to a call, with guards on both sides of it.
 
 use crate::draws::Bits;
+use std::borrow::Cow;
 
 const GUARD: usize = 16;
+/// As many bytes, in entries of a list.
+const GUARD_ENTRIES: usize = GUARD / size_of::<u16>();
 
 /// All that one call is lent.
 pub trait Memory: Clone + PartialEq {
@@ -10,8 +13,9 @@ pub trait Memory: Clone + PartialEq {
     fn parts(&self) -> Vec<(&'static str, Part<'_>)>;
 }
 
-/// The guard before, the bytes that are lent, and the guard behind.
-pub type Part<'a> = [&'a [u8]; 3];
+/// The guard before, the bytes that are lent, and the guard behind. Of a list the bytes
+/// are made for this, since nobody looks at them but where something differs.
+pub type Part<'a> = [Cow<'a, [u8]>; 3];
 
 /// In the order of the fields, so that the guards touch what is lent. What a call
 /// fills is drawn before it, as the guards are: a byte that is left out shows, and
@@ -39,7 +43,7 @@ impl<const N: usize> Lent<N> {
     }
 
     pub fn part(&self) -> Part<'_> {
-        [&self.before, &self.bytes, &self.behind]
+        [&self.before[..], &self.bytes, &self.behind].map(Cow::Borrowed)
     }
 
     #[cfg(test)]
@@ -67,8 +71,7 @@ impl LentSlice {
     }
 
     pub fn bytes(&self) -> &[u8] {
-        let [_, bytes, _] = self.part();
-        bytes
+        &self.0[GUARD..self.0.len() - GUARD]
     }
 
     pub fn bytes_mut(&mut self) -> &mut [u8] {
@@ -79,12 +82,54 @@ impl LentSlice {
     pub fn part(&self) -> Part<'_> {
         let (before, rest) = self.0.split_at(GUARD);
         let (bytes, behind) = rest.split_at(rest.len() - GUARD);
-        [before, bytes, behind]
+        [before, bytes, behind].map(Cow::Borrowed)
     }
 
     #[cfg(test)]
     pub fn with_guards(&mut self) -> &mut [u8] {
         &mut self.0
+    }
+}
+
+/// The same for a list of numbers, with entries for guards. It need not start where
+/// more than one entry would suit, so the guard before it is of a length that is drawn.
+#[derive(Clone, PartialEq, Eq)]
+pub struct LentList {
+    words: Vec<u16>,
+    start: usize,
+}
+
+impl LentList {
+    pub fn new(bits: &mut Bits, entries: &[u16]) -> Self {
+        let start = GUARD_ENTRIES + bits.place(GUARD_ENTRIES);
+        let [before, behind] = [start, GUARD_ENTRIES].map(|length| bits.words(length));
+        Self {
+            words: [&before, entries, &behind].concat(),
+            start,
+        }
+    }
+
+    pub fn entries(&self) -> &[u16] {
+        &self.words[self.start..self.words.len() - GUARD_ENTRIES]
+    }
+
+    pub fn entries_mut(&mut self) -> &mut [u16] {
+        let end = self.words.len() - GUARD_ENTRIES;
+        &mut self.words[self.start..end]
+    }
+
+    /// Each entry with its upper byte first, as one reads numbers.
+    pub fn part(&self) -> Part<'_> {
+        let (before, rest) = self.words.split_at(self.start);
+        let (entries, behind) = rest.split_at(rest.len() - GUARD_ENTRIES);
+        [before, entries, behind]
+            .map(|words| words.iter().flat_map(|word| word.to_be_bytes()).collect())
+            .map(Cow::Owned)
+    }
+
+    #[cfg(test)]
+    pub fn with_guards(&mut self) -> &mut [u16] {
+        &mut self.words
     }
 }
 
@@ -108,6 +153,23 @@ mod tests {
         assert_eq!(slice.part().concat(), slice.0);
         assert!(LentSlice::new(&mut bits, &[]).bytes().is_empty());
         assert_eq!(LentSlice::drawn(&mut bits, 5).bytes_mut().len(), 5);
+    }
+
+    #[test]
+    fn lists_start_at_any_entry_between_their_guards() {
+        let mut bits = Bits::from_seeds(1, 1);
+        let mut starts = [false; GUARD_ENTRIES];
+        for _ in 0..100 {
+            let mut list = LentList::new(&mut bits, &[1, 0x203]);
+            assert_eq!(list.entries(), [1, 0x203]);
+            assert_eq!(list.entries_mut().len(), 2);
+            let [before, entries, behind] = list.part();
+            assert_eq!(entries[..], [0, 1, 2, 3]);
+            assert!(before.len() >= 16 && behind.len() == 16);
+            starts[before.len() / 2 % GUARD_ENTRIES] = true;
+        }
+        assert_eq!(starts, [true; GUARD_ENTRIES]);
+        assert!(LentList::new(&mut bits, &[]).entries().is_empty());
     }
 
     /// Zeros are what a call writes most often.

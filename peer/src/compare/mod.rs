@@ -12,6 +12,7 @@ mod lent;
 mod report;
 mod spoilt;
 mod steps;
+mod switches;
 mod tally;
 mod values;
 
@@ -34,7 +35,7 @@ struct Subject {
     compare: fn(&dyn Door, usize) -> Tally,
 }
 
-const SUBJECTS: [Subject; 10] = [
+const SUBJECTS: [Subject; 15] = [
     Subject {
         name: "fresh",
         least: 1 << 24,
@@ -98,6 +99,46 @@ const SUBJECTS: [Subject; 10] = [
         kinds: &captures::KINDS,
         parts: captures::PARTS,
         compare: captures::compare,
+    },
+    Subject {
+        name: "switches, small",
+        least: 500_000,
+        refusals: &[0, 12, 13, 16],
+        kinds: &switches::SMALL_EXTENSIONS,
+        parts: switches::SMALL_PARTS,
+        compare: switches::small_extensions,
+    },
+    Subject {
+        name: "switches, in turn",
+        least: 40_000,
+        refusals: &[0],
+        kinds: &switches::EXTENSIONS_IN_TURN,
+        parts: switches::TURN_PARTS,
+        compare: switches::in_turn,
+    },
+    Subject {
+        name: "switches, drawn",
+        least: 150_000,
+        refusals: &[0, 8, 9, 12, 13, 16],
+        kinds: &switches::DRAWN_EXTENSIONS,
+        parts: switches::DRAWN_PARTS,
+        compare: switches::drawn_extensions,
+    },
+    Subject {
+        name: "last change, small",
+        least: 200_000,
+        refusals: &[0, 13, 16],
+        kinds: &switches::SMALL_LOOKUPS,
+        parts: switches::SMALL_PARTS,
+        compare: switches::small_lookups,
+    },
+    Subject {
+        name: "last change, drawn",
+        least: 200_000,
+        refusals: &[0, 8, 9, 13, 16],
+        kinds: &switches::DRAWN_LOOKUPS,
+        parts: switches::DRAWN_PARTS,
+        compare: switches::drawn_lookups,
     },
     Subject {
         name: "read, and written again",

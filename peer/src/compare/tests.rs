@@ -1,13 +1,16 @@
 mod books;
+mod switches;
 
 use super::*;
 use crate::book::STEP_BYTES;
 use crate::books::pairs::unheard;
-use crate::door::{Peer, CONTENTS, DECODED, ENCODED, K1, RECORD, SIZE, STEP, VERDICT};
+use crate::door::{
+    Peer, CHANGE, CHANGES, CONTENTS, DECODED, ENCODED, K1, RECORD, SIZE, STEP, VERDICT,
+};
 use std::io::Write;
 
 /// This reading in the place of the library, with one function that is wrong, with no
-/// notion of alarms, or with another way with books.
+/// notion of alarms, or with another way with books or with lists.
 struct Fake {
     wrong: &'static str,
 }
@@ -95,6 +98,25 @@ impl Door for Fake {
         refusal
     }
 
+    fn switches(
+        &self,
+        capture: &[u8],
+        listed: u16,
+        count: u16,
+        table: &mut [u16],
+        out: &mut [u8; CHANGES],
+    ) -> u8 {
+        let refusal = switches::extend(self.wrong, capture, [listed, count], table, out);
+        self.spoil("switches", out);
+        refusal
+    }
+
+    fn last_change(&self, capture: &[u8], list: &[u16], step: u16, out: &mut [u8; CHANGE]) -> u8 {
+        let refusal = switches::look_up(self.wrong, capture, list, step, out);
+        self.spoil("last change", out);
+        refusal
+    }
+
     fn read(&self, book: &[u8], out: &mut [u8; CONTENTS]) -> u8 {
         let refusal = books::read(self.wrong, book, out);
         self.spoil("read", out);
@@ -130,7 +152,17 @@ fn part_of(name: &str, library: &dyn Door) -> Tally {
 
 #[test]
 fn a_wrong_byte_of_each_function_is_noticed() {
-    for name in ["fresh", "k1", "decode", "encode", "judge", "read", "write"] {
+    for name in [
+        "fresh",
+        "k1",
+        "decode",
+        "encode",
+        "judge",
+        "switches",
+        "last change",
+        "read",
+        "write",
+    ] {
         let tally = part_of(name, &Fake { wrong: name });
         assert!(tally.differences > 0 && !tally.told.is_empty(), "{name}");
     }
@@ -289,5 +321,6 @@ fn as_many_calls_are_due_as_the_order_asks_for() {
     assert_eq!(due("decode"), 256 * 256 * 256);
     assert!(due("encode") >= 6 * 256 * 256 * 256 * 2);
     assert!(due("judge") >= 200_000);
+    assert!(due("switches") >= 600_000 && due("last change") >= 400_000);
     assert!(due("read") >= 100_000 && due("write") >= 100_000);
 }

@@ -1,11 +1,12 @@
 //! This reading behind the door. None of its functions is inlined, so that to
 //! call it costs a call, as it does to call the library.
 
-use super::{Door, CONTENTS, DECODED, ENCODED, K1, RECORD, SIZE, STEP, VERDICT};
+use super::{Door, CHANGE, CHANGES, CONTENTS, DECODED, ENCODED, K1, RECORD, SIZE, STEP, VERDICT};
 use crate::book::{self, Contents, Entry, ENTRY_BYTES};
 use crate::controller::{self, Answer, Record};
 use crate::judge::{scan, Verdict};
 use crate::pair::{self, values, Received};
+use crate::switches;
 
 pub struct Peer;
 
@@ -81,6 +82,33 @@ impl Door for Peer {
     fn judge(&self, n: u8, mask: u16, wait: u16, capture: &[u8], out: &mut [u8; VERDICT]) -> u8 {
         let (refusal, verdict) = verdict_bytes(scan::judge(n, mask, wait, capture));
         *out = verdict;
+        refusal
+    }
+
+    #[inline(never)]
+    fn switches(
+        &self,
+        capture: &[u8],
+        listed: u16,
+        count: u16,
+        table: &mut [u16],
+        out: &mut [u8; CHANGES],
+    ) -> u8 {
+        let (refusal, changes) = match switches::extend(capture, listed, count, table) {
+            Ok(changes) => (0, changes),
+            Err(refusal) => (refusal, 0),
+        };
+        *out = changes.to_be_bytes();
+        refusal
+    }
+
+    #[inline(never)]
+    fn last_change(&self, capture: &[u8], list: &[u16], step: u16, out: &mut [u8; CHANGE]) -> u8 {
+        let (refusal, change) = match switches::last_change(capture, list, step) {
+            Ok(change) => (0, change),
+            Err(refusal) => (refusal, None),
+        };
+        *out = change_bytes(change);
         refusal
     }
 
@@ -175,6 +203,13 @@ pub fn verdict_bytes(verdict: Result<Verdict, u8>) -> (u8, [u8; VERDICT]) {
     };
     let [high, low] = (number as u16).to_be_bytes();
     (refusal, [kind, high, low])
+}
+
+fn change_bytes(change: Option<u16>) -> [u8; CHANGE] {
+    match change.map(u16::to_be_bytes) {
+        Some([high, low]) => [1, high, low],
+        None => [0; CHANGE],
+    }
 }
 
 fn put_contents(contents: &Contents, out: &mut [u8; CONTENTS]) {

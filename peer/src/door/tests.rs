@@ -147,6 +147,50 @@ fn verdicts_are_a_kind_and_a_number() {
     }
 }
 
+/// The captures of the paper's book: the number of changes stands in the output with its
+/// upper byte first, and a table has entries of this machine.
+#[test]
+fn switches_are_entries_and_their_number() {
+    let capture = &PAPER_BOOK[26..38];
+    const EMPTY: u16 = 0xEEEE;
+    for (listed, count, table, refusal, left, changes) in [
+        (0, 0, [EMPTY; 3], 0, [0, 2, EMPTY], [0, 2]),
+        (2, 1, [0, EMPTY, EMPTY], 0, [0, 2, EMPTY], [0, 2]),
+        (3, 2, [0, 2, EMPTY], 0, [0, 2, EMPTY], [0, 2]),
+        (4, 2, [0, 2, EMPTY], 13, [0, 2, EMPTY], [0, 0]),
+        (2, 2, [0, 2, EMPTY], 16, [0, 2, EMPTY], [0, 0]),
+    ] {
+        let (mut lent, mut out) = (table, [FILL; CHANGES]);
+        let answer = Peer.switches(capture, listed, count, &mut lent, &mut out);
+        assert_eq!((answer, lent, out), (refusal, left, changes), "{listed}");
+    }
+    let each: Vec<u8> = (0..300)
+        .flat_map(|step| [0, 0, 1 + step as u8 % 2, 0])
+        .collect();
+    let (mut table, mut out) = ([EMPTY; 300], [FILL; CHANGES]);
+    assert_eq!(Peer.switches(&each, 0, 0, &mut table, &mut out), 0);
+    assert_eq!((table[299], out), (299, [1, 44]));
+    assert_eq!(Peer.switches(&each, 0, 0, &mut table[..299], &mut out), 12);
+    assert_eq!(out, [0; CHANGES]);
+}
+
+#[test]
+fn a_last_change_is_a_flag_and_its_step() {
+    let mut capture = [0x00, 0x08, 0x00, 0x08].repeat(600);
+    capture[4 * 300 + 2] = 0xE1;
+    for (list, step, refusal, expected) in [
+        (&[300, 301][..], 299, 0, [0; CHANGE]),
+        (&[300, 301], 300, 0, [1, 1, 44]),
+        (&[300, 301], 599, 0, [1, 1, 45]),
+        (&[300, 301], 600, 13, [0; CHANGE]),
+        (&[300], 300, 16, [0; CHANGE]),
+    ] {
+        let mut out = [FILL; CHANGE];
+        let answer = Peer.last_change(&capture, list, step, &mut out);
+        assert_eq!((answer, out), (refusal, expected), "{list:?} {step}");
+    }
+}
+
 #[test]
 fn contents_stand_behind_their_count_as_in_the_book() {
     let mut contents = [FILL; CONTENTS];

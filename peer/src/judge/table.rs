@@ -1,7 +1,7 @@
 //! The table of the program `judge` (paper: end of "Sequences on both sides").
 
 use super::{judge, Verdict};
-use crate::book::{self, Entry, MOST_BYTES};
+use crate::book::{self, Entry};
 use std::fmt::{self, Display, Formatter};
 use std::io::{self, Read, Write};
 
@@ -74,10 +74,7 @@ impl Display for Line {
 
 /// Reads one book and prints its table.
 pub fn write(input: impl Read, out: &mut impl Write) -> io::Result<()> {
-    let mut book = Vec::new();
-    // One byte past the bound is enough to know that the book is above it.
-    input.take(MOST_BYTES as u64 + 1).read_to_end(&mut book)?;
-    write!(out, "{}", Table::of(&book))
+    write!(out, "{}", Table::of(&book::load(input)?))
 }
 
 #[cfg(test)]

@@ -1,7 +1,9 @@
 //! In place of the library, where this package was built without it. There is no
 //! value of this type, so nothing here is ever called.
 
-use crate::door::{Door, CONTENTS, DECODED, ENCODED, K1, RECORD, SIZE, STEP, VERDICT};
+use crate::door::{
+    Door, CHANGE, CHANGES, CONTENTS, DECODED, ENCODED, K1, RECORD, SIZE, STEP, VERDICT,
+};
 
 pub enum Library {}
 
@@ -31,6 +33,14 @@ impl Door for Library {
     }
 
     fn judge(&self, _: u8, _: u16, _: u16, _: &[u8], _: &mut [u8; VERDICT]) -> u8 {
+        match *self {}
+    }
+
+    fn switches(&self, _: &[u8], _: u16, _: u16, _: &mut [u16], _: &mut [u8; CHANGES]) -> u8 {
+        match *self {}
+    }
+
+    fn last_change(&self, _: &[u8], _: &[u16], _: u16, _: &mut [u8; CHANGE]) -> u8 {
         match *self {}
     }
 

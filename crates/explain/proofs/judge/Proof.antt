@@ -1,8 +1,9 @@
 -- `judge` meets its contract: refused for the settings, refused for the size, or the scan's verdict, which is right.
 use mathlib.Core.Path.{sym, _∙_}
 use lib.ListN.{length}
+use Rattle.basics.proofs.Fitting.{size-fits}
 use Rattle.controller.proofs.Making.{fresh-facts, refused-facts}
-use Rattle.explain.proofs.Judged.{size-fits, fresh-fit, settings-right, size-right, scanned-right}
+use Rattle.explain.proofs.Judged.{fresh-fit, settings-right, size-right, scanned-right}
 use borrow.Author.Needs.{needs}
 use Rattle.explain.proofs.judge.Statement.{statement}
 use Rattle.explain.proofs.judge.Tie as tie

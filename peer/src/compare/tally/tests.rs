@@ -1,5 +1,5 @@
 use super::*;
-use crate::compare::lent::{Lent, LentSlice};
+use crate::compare::lent::{Lent, LentList, LentSlice};
 use crate::draws::Bits;
 use std::cell::Cell;
 
@@ -90,6 +90,33 @@ fn every_touched_guard_of_an_output_is_a_difference() {
             });
             assert_eq!(tally.differences, 1, "{place}");
         }
+    }
+}
+
+impl Memory for LentList {
+    fn parts(&self) -> Vec<(&'static str, Part<'_>)> {
+        vec![("list", self.part())]
+    }
+}
+
+/// Of the guards too, which are 8 entries behind the list, and 8 or more before it.
+#[test]
+fn every_touched_entry_of_a_list_is_a_difference() {
+    let mut bits = Bits::from_seeds(4, 1);
+    let memory = LentList::new(&mut bits, &[3, 5, 8]);
+    let entries = memory.clone().with_guards().len();
+    assert!(entries >= 8 + 3 + 8);
+    for place in 0..entries {
+        let first = Cell::new(true);
+        let both = both(&Peer, &memory, |_, memory| {
+            let touched = u16::from(first.replace(false));
+            memory.with_guards()[place] ^= touched << 15;
+            0
+        });
+        let mut tally = Tally::default();
+        tally.add(&both, || "given".into());
+        assert_eq!(tally.differences, 1, "{place}");
+        assert!(tally.told[0].contains("  list, library: ["));
     }
 }
 

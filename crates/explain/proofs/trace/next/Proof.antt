@@ -12,7 +12,7 @@ use Rattle.pair.proofs.Coding.{usable-test}
 use Rattle.controller.specs.Settings.{idleK1}
 use Rattle.controller.specs.Rules.{asked, rankOfRequest, held}
 use Rattle.controller.specs.Step.{waitOf}
-use Rattle.explain.specs.Capture.{row}
+use Rattle.basics.specs.Capture.{row}
 use Rattle.explain.specs.Cause.{commandedAt, arises, unseen}
 use Rattle.explain.specs.Trace.{opensAt, recordAfter, acceptedByte, leftOpen}
 use Rattle.explain.proofs.Ranked.{next-ranked, accepted-rank}

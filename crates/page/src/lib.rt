@@ -1,0 +1,61 @@
+// Text on a page, for the programs. A page is filled from its start and written at once. Each function that puts a text
+// takes where it begins and answers where the next one does; a text that the page has no room for is dropped whole.
+ghost use Prim.Native.Nat.{_+_, _<_};
+ghost use Rattle.page.specs.Digits.{digitOf, decimal, hexadecimal};
+ghost use Rattle.page.specs.Text.{withText, textEnd};
+ghost use lib.Dec.{leb};
+ghost use lib.ListN.{take};
+ghost use mathlib.Core.Path.{_≡_};
+
+// Whether so many bytes have room at a place. (The sum of the two may be too large for a usize.)
+fn has_room(size: usize, at: usize, more: usize) -> bool
+    ensures { λ r. ⌜ r ≡ leb (at + more) size ⌝ }
+{
+    if size < at {
+        return false;
+    }
+    more <= size - at
+}
+
+pub fn put(page: &mut [u8], at: usize, text: &[u8]) -> usize
+    ensures { λ r. ⌜ r ≡ textEnd (now (page .entry)) at (now (text .entry)) ⌝ }
+    ensures { λ _. ⌜ now (page .exit) ≡ withText (now (page .entry)) at (now (text .entry)) ⌝ }
+{
+    if has_room(page.len(), at, text.len()) {
+        bytes::copy(text, &mut page[at..]);
+        at + text.len()
+    } else {
+        at
+    }
+}
+
+pub fn put_number(page: &mut [u8], at: usize, v: u64) -> usize
+    ensures { λ r. ⌜ r ≡ textEnd (now (page .entry)) at (decimal v) ⌝ }
+    ensures { λ _. ⌜ now (page .exit) ≡ withText (now (page .entry)) at (decimal v) ⌝ }
+{
+    let mut digits = [0u8; 20];
+    let k = io::decimal(v, &mut digits);
+    put(page, at, &digits[..k])
+}
+
+fn digit(d: u8) -> u8
+    requires { ⌜ d < 16 ⌝ }
+    ensures { λ r. ⌜ r ≡ digitOf d ⌝ }
+{
+    if d < 10 { 48 + d } else { 55 + d }
+}
+
+pub fn put_hex(page: &mut [u8], at: usize, b: u8) -> usize
+    ensures { λ r. ⌜ r ≡ textEnd (now (page .entry)) at (hexadecimal b) ⌝ }
+    ensures { λ _. ⌜ now (page .exit) ≡ withText (now (page .entry)) at (hexadecimal b) ⌝ }
+{
+    let digits = [digit(b / 16), digit(b % 16)];
+    put(page, at, &digits)
+}
+
+// The first n bytes, or all where there are fewer.
+pub fn front(bytes: &[u8], n: usize) -> &[u8]
+    ensures { λ r. ⌜ now r ≡ take n (now (bytes .entry)) ⌝ }
+{
+    if bytes.len() < n { bytes } else { &bytes[..n] }
+}

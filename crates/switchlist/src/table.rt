@@ -1,0 +1,93 @@
+// What is printed of a book: a line for each change of the sent K1, capture by capture, or the book's refusal (02, e). The
+// page is written whenever it is full, and the last of it by the caller.
+use crate::line::LONGEST;
+use crate::line::put_line;
+use book::Contents;
+use book::body;
+use book::read;
+use libc::STDOUT_FILENO;
+use page::front;
+use page::put;
+use page::put_number;
+use switches::Extending;
+use switches::extend;
+ghost use Prim.Native.Nat.{_≤_};
+
+// A book can have more than 16,000 changes. A write for each line would take most of the time, and a page for all lines
+// some 300,000 bytes.
+pub(crate) const ROOM: usize = 4096;
+
+// Where a line begins at the latest, so that the longest has room.
+const LAST: usize = ROOM - LONGEST;
+
+// Where the next line begins: behind the last one, or, once the page is written, at its start.
+fn next_line(page: &[u8], at: usize) -> usize {
+    if at <= LAST {
+        return at;
+    }
+    io::write_all(STDOUT_FILENO, front(page, at));
+    0
+}
+
+// The sent K1, byte 2 of a step's four. No step is listed that the capture does not have; the test spares a proof of that.
+fn sent_at(body: &[u8], step: u16) -> u8 {
+    let place = 4 * (step as usize) + 2;
+    if place < body.len() { body[place] } else { 0 }
+}
+
+fn put_changes(page: &mut [u8], start: usize, number: usize, body: &[u8], steps: &[u16]) -> usize {
+    let mut at = start;
+    let mut i = 0;
+    while i < steps.len() {
+        let step = steps[i];
+        at = next_line(page, at);
+        at = put_line(page, at, number, step, sent_at(body, step));
+        i += 1;
+    }
+    at
+}
+
+// Of a book that was read no capture is refused, and no more changes are counted than the table holds; the tests spare a
+// proof of both.
+fn put_capture(page: &mut [u8], at: usize, number: usize, body: &[u8], table: &mut [u16]) -> usize {
+    let Extending::Extended(count) = extend(body, 0, 0, table) else {
+        return at;
+    };
+    let end = count as usize;
+    if table.len() < end {
+        return at;
+    }
+    put_changes(page, at, number, body, &table[..end])
+}
+
+// A book that is read has at most 64 captures (refusal 23).
+fn put_captures(page: &mut [u8], book: &[u8], contents: Contents, table: &mut [u16]) -> usize
+    requires { ⌜ contents .count ≤ 64 ⌝ }
+{
+    let count = contents.count;
+    let entries = contents.entries;
+    let mut at = put(page, 0, b"capture step k1 request channel\n");
+    let mut i = 0;
+    while i < count as usize {
+        let e = entries[i];
+        at = put_capture(page, at, i, body(book, e), table);
+        i += 1;
+    }
+    at
+}
+
+fn put_refusal(page: &mut [u8], number: u8) -> usize {
+    let at = put(page, 0, b"refused ");
+    let at = put_number(page, at, number as u64);
+    put(page, at, b"\n")
+}
+
+// Answers where the text on the page ends that is not yet written.
+pub(crate) fn put_table(page: &mut [u8], book: &[u8], table: &mut [u16]) -> usize {
+    let answer = read(book);
+    if answer.refusal == 0 {
+        put_captures(page, book, answer.contents, table)
+    } else {
+        put_refusal(page, answer.refusal)
+    }
+}
