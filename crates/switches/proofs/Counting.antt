@@ -13,7 +13,7 @@ use Rattle.switches.specs.Changes.{sentIn, changed, changes}
 use Rattle.switches.specs.Walk.{firstChanges, Walks}
 use Rattle.switches.proofs.Below.{lt-or-le}
 use Rattle.switches.proofs.Sent.{sent-long}
-use Rattle.switches.proofs.Walking.{At, few-steps, tested, at-next, first-count, first-few, first-steps}
+use Rattle.switches.proofs.Walking.{At, few-steps, tested, at-next, first-count, first-few, first-steps, few-changes}
 
 -- a number that the next step adds to, if it counts
 added : (t : Bool) (base count more number : ℕ) → count ≡ base + number
@@ -72,23 +72,28 @@ module _ {bytes : List ℕ} {from : ℕ} (w : Walks bytes from) where
       let inside = w .inside in
       omega (arith, sent-long bytes)
 
-  pub room-for-all : (room : ℕ) → length bytes / 4 - from ≤ room
-      → false ≡ ltb (length (firstChanges bytes from) + room) (length (changes (sentIn bytes)))
-  room-for-all room enough =
+  pub room-for-all : (known room : ℕ) → known + (length bytes / 4 - from) ≤ room
+      → false ≡ ltb (length (firstChanges bytes from) + room) (known + length (changes (sentIn bytes)))
+  room-for-all known room enough =
       sym
-      (le-ltb (length (firstChanges bytes from) + room) (length (changes (sentIn bytes)))
+      (le-ltb (length (firstChanges bytes from) + room) (known + length (changes (sentIn bytes)))
       (omega (arith, sent-long bytes, first-steps bytes from (length (sentIn bytes)) (w .inside))))
 
-add-less : (base a b : ℕ) → ltb a b ≡ ltb (base + a) (base + b)
+pub add-less : (base a b : ℕ) → ltb a b ≡ ltb (base + a) (base + b)
 add-less base a b =
     ⊎-elim
     (λ (h : a < b). lt-ltb a b h ∙ sym (lt-ltb (base + a) (base + b) (omega arith)))
     (λ (h : b ≤ a). le-ltb a b h ∙ sym (le-ltb (base + a) (base + b) (omega arith)))
     (lt-or-le a b)
 
-pub room-counted : (bytes : List ℕ) (from room number : ℕ)
+pub room-counted : (bytes : List ℕ) (from known room number : ℕ)
     → length (changes (sentIn bytes)) ≡ length (firstChanges bytes from) + number
-    → ltb room number ≡ ltb (length (firstChanges bytes from) + room) (length (changes (sentIn bytes)))
-room-counted bytes from room number e =
-    add-less (length (firstChanges bytes from)) room number
-    ∙ ap (λ (m : ℕ). ltb (length (firstChanges bytes from) + room) m) (sym e)
+    → ltb room (known + number) ≡ ltb (length (firstChanges bytes from) + room) (known + length (changes (sentIn bytes)))
+room-counted bytes from known room number e =
+    let sum : length (firstChanges bytes from) + (known + number) ≡ known + length (changes (sentIn bytes)) = omega arith in
+    add-less (length (firstChanges bytes from)) room (known + number)
+    ∙ ap (λ (m : ℕ). ltb (length (firstChanges bytes from) + room) m) sum
+
+pub few-more : (bytes : List ℕ) (from number : ℕ) → Walks bytes from
+    → length (changes (sentIn bytes)) ≡ length (firstChanges bytes from) + number → number ≤ 16384
+few-more bytes from number w e = omega (arith, few-changes bytes w)

@@ -2,7 +2,7 @@
 use mathlib.Core.Path.{_≡_, refl, sym, ap, _∙_}
 use mathlib.Core.Bool.{Bool, true, false, not}
 use mathlib.Core.List.{List, [], _∷_}
-use Prim.Native.Nat.{ℕ, _+_, _-_, _≤_, _<_}
+use Prim.Native.Nat.{ℕ, _+_, _≤_}
 use native.Mathlib.Omega.{arith}
 use lib.Dec.{ltb, eqb}
 use lib.ListN.{length, take, drop}
@@ -17,6 +17,7 @@ use Rattle.switches.specs.Walk.{firstChanges, Walks, Fits, Put}
 use Rattle.switches.specs.declared.Extending.{Extending}
 use Rattle.switches.specs.declared.Extending.the-variants as answer
 use Rattle.switches.proofs.Checking.{lists-equal}
+use Rattle.switches.proofs.Counting.{add-less}
 use Rattle.switches.proofs.Refusals.{steps-walk}
 
 module _ (bytes : List ℕ) (listed count : ℕ) (table : List ℕ) where
@@ -66,26 +67,23 @@ module _ (bytes : List ℕ) (listed count : ℕ) (table : List ℕ) where
       pub counts : count ≡ length (firstChanges bytes listed)
       counts = sym (length-take-le count table (equal .0)) ∙ ap length (equal .1)
 
-      pub room-left : count ≤ length table
-      room-left = equal .0
-
-      -- the room that is left is for the further changes exactly if the table is for all
+      -- the test of the room is whether the table is too short
       more-is : (more : Bool)
-          → more ≡ ltb (length (firstChanges bytes listed) + (length table - count)) (length (changes (sentIn bytes)))
+          → more ≡ ltb (length (firstChanges bytes listed) + length table) (count + length (changes (sentIn bytes)))
           → short ≡ more
       more-is more e =
-          let whole : length table ≡ length (firstChanges bytes listed) + (length table - count) =
-          (let c = counts in let r = room-left in omega arith) in
-          ap (λ (m : ℕ). ltb m (length (changes (sentIn bytes)))) whole ∙ sym e
+          add-less count (length table) (length (changes (sentIn bytes)))
+          ∙ ap (λ (m : ℕ). ltb (m + length table) (count + length (changes (sentIn bytes)))) counts
+          ∙ sym e
 
       pub room-refused : (more : Bool)
-          → more ≡ ltb (length (firstChanges bytes listed) + (length table - count)) (length (changes (sentIn bytes)))
+          → more ≡ ltb (length (firstChanges bytes listed) + length table) (count + length (changes (sentIn bytes)))
           → more ≡ true → Promised (answer.Refused 12) table
       room-refused more e is =
           refused 12 (sym (behind ∙ rw (theirs, more-is more e ∙ is))) (λ z. omega arith)
 
       pub fits : (more : Bool)
-          → more ≡ ltb (length (firstChanges bytes listed) + (length table - count)) (length (changes (sentIn bytes)))
+          → more ≡ ltb (length (firstChanges bytes listed) + length table) (count + length (changes (sentIn bytes)))
           → more ≡ false → Fits bytes listed count table
       fits more e is =
           record {
@@ -95,7 +93,7 @@ module _ (bytes : List ℕ) (listed count : ℕ) (table : List ℕ) where
           }
 
       pub all-put : (more : Bool)
-          → more ≡ ltb (length (firstChanges bytes listed) + (length table - count)) (length (changes (sentIn bytes)))
+          → more ≡ ltb (length (firstChanges bytes listed) + length table) (count + length (changes (sentIn bytes)))
           → more ≡ false → (number : ℕ) (after : List ℕ) → Put bytes count number table after
           → Promised (answer.Extended number) after
       unfolding extending extended

@@ -32,16 +32,17 @@ fn count_changes(capture: &[u8], from: usize) -> usize
     number
 }
 
-// Whether there are more than the room is for. Where it is for every step that is left, they need not be counted.
-pub(crate) fn more_changes(capture: &[u8], from: usize, room: usize) -> bool
-    requires { ⌜ Walks (now capture) from ⌝ }
-    ensures { λ r. ⌜ r ≡ ltb (length (firstChanges (now (capture .entry)) from) + room) (length (changes (sentIn (now (capture .entry))))) ⌝ }
+// Whether the known entries and one for each change from a step on are more than there is room for. Where there is room for
+// every step that is left, the changes need not be counted.
+pub(crate) fn over_room(capture: &[u8], from: usize, known: usize, room: usize) -> bool
+    requires { ⌜ Walks (now capture) from × (known < 65536) ⌝ }
+    ensures { λ r. ⌜ r ≡ ltb (length (firstChanges (now (capture .entry)) from) + room) (known + length (changes (sentIn (now (capture .entry))))) ⌝ }
 {
     let steps = capture.len() / 4;
-    if steps - from <= room {
+    if known + (steps - from) <= room {
         return false;
     }
-    room < count_changes(capture, from)
+    room < known + count_changes(capture, from)
 }
 
 fn put_change(table: &mut [u16], number: usize, step: u16, changed: bool) -> usize

@@ -5,11 +5,11 @@ mod change;
 mod list;
 
 use crate::capture::steps_refusal;
-use crate::change::more_changes;
+use crate::change::over_room;
 use crate::change::put_changes;
 use crate::list::lists;
 use crate::list::passed;
-ghost use Prim.Native.Nat.{_+_};
+ghost use Prim.Native.Nat.{_+_, _<_};
 ghost use Rattle.basics.specs.Answer.{Answers};
 ghost use Rattle.basics.specs.First.{firstOf};
 ghost use Rattle.switches.specs.Extend.{stepsFaults, extendingTold, extendingCase, extending, extended};
@@ -44,15 +44,16 @@ pub fn extend(capture: &[u8], listed: u16, count: u16, table: &mut [u16]) -> Ext
 
 // The steps that are listed are walked to check the list, and the others to list them: each step once.
 fn extend_whole(capture: &[u8], listed: usize, count: usize, table: &mut [u16]) -> Extending
-    requires { ⌜ firstOf (stepsFaults (now capture) listed) ≡ 0 ⌝ }
+    requires { ⌜ (firstOf (stepsFaults (now capture) listed) ≡ 0) × (count < 65536) ⌝ }
     ensures { λ r. ⌜ Answers extendingTold extendingCase (extending (now (capture .entry)) listed count (now (table .entry))) r ⌝ }
     ensures { λ _. ⌜ now (table .exit) ≡ extended (now (capture .entry)) listed count (now (table .entry)) ⌝ }
 {
-    if !lists(capture, listed, table, count) {
+    let ours = lists(capture, listed, table, count);
+    let short = over_room(capture, listed, count, table.len());
+    if !ours {
         return Extending::Refused(16);
     }
-    let room = table.len() - count;
-    if more_changes(capture, listed, room) {
+    if short {
         return Extending::Refused(12);
     }
     let number = put_changes(capture, listed, count, table);
@@ -75,7 +76,8 @@ fn look_up(capture: &[u8], list: &[u16], step: u16) -> Looking
     requires { ⌜ firstOf (stepsFaults (now capture) (step + 1)) ≡ 0 ⌝ }
     ensures { λ r. ⌜ Answers lookingTold lookingCase (looking (now (capture .entry)) (now (list .entry)) step) r ⌝ }
 {
-    if !lists(capture, capture.len() / 4, list, list.len()) {
+    let size = list.len();
+    if !lists(capture, capture.len() / 4, list, size) {
         return Looking::Refused(16);
     }
     let count = passed(list, step);
@@ -83,5 +85,6 @@ fn look_up(capture: &[u8], list: &[u16], step: u16) -> Looking
         return Looking::NoChange;
     }
     let last = count - 1;
-    Looking::Change(list[last])
+    let change = list[last];
+    Looking::Change(change)
 }

@@ -43,13 +43,13 @@ returns-2 c =
 sub-last : tie.Need-sub-last
 sub-last c = search needs
 
-mul-t7 : tie.Need-mul-t7
-mul-t7 c =
+mul-change : tie.Need-mul-change
+mul-change c =
     let within = c .before .passed .ensures .within in
     search needs
 
-shared-slice-read-t12 : tie.Need-shared-slice-read-t12
-shared-slice-read-t12 c =
+shared-slice-read-change : tie.Need-shared-slice-read-change
+shared-slice-read-change c =
     let within = c .before .before .passed .ensures .within in
     search needs
 
@@ -71,6 +71,6 @@ look-up-spec =
     passed-requires
     returns-2
     sub-last
-    mul-t7
-    shared-slice-read-t12
+    mul-change
+    shared-slice-read-change
     returns-3)
