@@ -2,13 +2,13 @@
 use mathlib.Core.Path.{_≡_, refl, sym, subst, _∙_}
 use mathlib.Core.Bool.{Bool, true, false}
 use mathlib.Core.List.{List}
-use Prim.Native.Nat.{ℕ, _%_, _≤_}
+use Prim.Native.Nat.{ℕ}
 use native.Mathlib.Omega.{arith}
 use lib.Dec.{eqb}
 use lib.ListN.{length}
-use borrow.Author.Tests.{eqb-true, eqb-false, ltb-false, ne-eqb, not-false}
+use borrow.Author.Tests.{eqb-true, eqb-false, ne-eqb}
 use Rattle.basics.specs.First.{firstOf}
-use Rattle.basics.proofs.First.{none-exact, none-both, first-behind, first-before}
+use Rattle.basics.proofs.First.{none-both, first-behind, first-before}
 use Rattle.basics.proofs.Fitting.{settings-fit}
 use Rattle.basics.specs.Settings.{sectionsFit, maskFits}
 use Rattle.controller.specs.Settings.{fresh, settingsFaults}

@@ -1,6 +1,6 @@
 -- Holding a list that is handed in against the capture's changes.
 use mathlib.Core.Path.{_≡_, refl, sym, ap, _∙_}
-use mathlib.Core.Bool.{Bool, true, false, not, _&&_, and-eq-true-iff, false≢true}
+use mathlib.Core.Bool.{Bool, true, false, _&&_, and-eq-true-iff, false≢true}
 use mathlib.Core.List.{List, [], _∷_, _++_}
 use Prim.Native.Nat.{ℕ, _+_, _*_, _≤_, _<_, zero-le}
 use native.Mathlib.Numerals.{add-one}
@@ -13,9 +13,9 @@ use Rattle.switches.specs.Changes.{below_suchThat_, sentIn, changed}
 use Rattle.switches.specs.Extend.{alike, lists}
 use Rattle.switches.specs.Walk.{firstChanges, Walks}
 use Rattle.switches.proofs.Alike.{alike-equal, alike-self}
-use Rattle.switches.proofs.Below.{below-behind, Behind}
+use Rattle.switches.proofs.Below.{below-behind}
 use Rattle.switches.proofs.Sent.{changes-front}
-use Rattle.switches.proofs.Walking.{At, few-steps, differs, agrees, at-next, first-same, first-more, first-count, first-few, first-fewer}
+use Rattle.switches.proofs.Walking.{At, few-steps, differs, agrees, at-next, first-same, first-more, first-few}
 
 module _ (bytes : List ℕ) (steps : ℕ) (table : List ℕ) (count : ℕ) where
   abbrev answer : Bool

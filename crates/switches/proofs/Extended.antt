@@ -4,16 +4,16 @@ use mathlib.Core.Bool.{Bool, true, false, not}
 use mathlib.Core.List.{List, [], _∷_}
 use Prim.Native.Nat.{ℕ, _+_, _≤_}
 use native.Mathlib.Omega.{arith}
-use lib.Dec.{ltb, eqb}
-use lib.ListN.{length, take, drop}
-use lib.Seq.{sets, length-take-le}
+use lib.Dec.{ltb}
+use lib.ListN.{length, take}
+use lib.Seq.{length-take-le}
 use borrow.Author.Tests.{ne-eqb, ltb-false}
 use Rattle.basics.specs.Answer.{Answers}
 use Rattle.basics.specs.First.{_when_, firstOf}
 use Rattle.basics.proofs.First.{first-before, first-behind}
 use Rattle.switches.specs.Changes.{sentIn, changes}
 use Rattle.switches.specs.Extend.{stepsFaults, lists, extendRefusal, extendingTold, extendingCase, extending, extended}
-use Rattle.switches.specs.Walk.{firstChanges, Walks, Fits, Put}
+use Rattle.switches.specs.Walk.{firstChanges, Fits, Put}
 use Rattle.switches.specs.declared.Extending.{Extending}
 use Rattle.switches.specs.declared.Extending.the-variants as answer
 use Rattle.switches.proofs.Checking.{lists-equal}

@@ -1,11 +1,11 @@
 -- A list that was extended: it is the whole list, what it does not add stays, and two goes are one.
 use mathlib.Core.Path.{_≡_, refl, sym, ap, _∙_}
-use mathlib.Core.Bool.{Bool, true, false, not, _&&_}
+use mathlib.Core.Bool.{Bool, true, false, not}
 use mathlib.Core.List.{List, [], _∷_, _++_}
 use mathlib.Core.Logic.{_⊎_, ⊎-elim}
 use Prim.Native.Nat.{ℕ, _+_, _-_, _%_, _≤_, _<_, zero-le}
 use native.Mathlib.Omega.{arith}
-use lib.Dec.{leb, ltb, eqb}
+use lib.Dec.{ltb, eqb}
 use lib.ListN.{length, getD, take, drop, length-append, length-drop, List·getD-append}
 use lib.Seq.{sets, sets-eq, length-sets, length-take-le, take-append-le, take-append-seam, drop-append-le, drop-append-seam}
 use lib.Seq.{getD-take, getD-drop, getD-append-add}
@@ -15,7 +15,7 @@ use Rattle.basics.specs.First.{Check, _when_, firstOf}
 use Rattle.basics.proofs.First.{none-both, none-exact}
 use Rattle.basics.proofs.Bytes.{sets-joined}
 use Rattle.switches.specs.Changes.{below_suchThat_, sentIn, changed, changes}
-use Rattle.switches.specs.Extend.{stepsFaults, alike, lists, extendRefusal, Grown, extending, extended}
+use Rattle.switches.specs.Extend.{stepsFaults, lists, extendRefusal, Grown, extending, extended}
 use Rattle.switches.specs.Walk.{firstChanges, Walks}
 use Rattle.switches.proofs.Alike.{alike-self}
 use Rattle.switches.proofs.Below.{below-behind, Behind}

@@ -1,12 +1,11 @@
 -- What looking up the last change answers, by the first refusal that applies.
 use mathlib.Core.Path.{_≡_, refl, sym, ap, _∙_}
-use mathlib.Core.Bool.{Bool, true, false, not, _&&_}
+use mathlib.Core.Bool.{Bool, true, false, not}
 use mathlib.Core.List.{List, [], _∷_, _++_}
 use mathlib.Core.Logic.{⊎-elim}
 use Prim.Native.Nat.{ℕ, _+_, _-_, _/_, _≤_, _<_}
 use native.Mathlib.Nat.{add-zero}
 use native.Mathlib.Omega.{arith}
-use lib.Dec.{leb, eqb}
 use lib.ListN.{length, getD, take, length-append, List·getD-append}
 use lib.Seq.{take-all, take-length, getD-append-add}
 use borrow.Author.Tests.{ne-eqb, le-leb}
@@ -15,7 +14,7 @@ use Rattle.basics.specs.First.{_when_, firstOf}
 use Rattle.basics.proofs.First.{first-before, first-behind}
 use Rattle.switches.specs.Changes.{below_suchThat_, sentIn, changed, changes}
 use Rattle.switches.specs.Extend.{stepsFaults, alike, lists}
-use Rattle.switches.specs.LastChange.{lookFaults, Looked, lookingTold, lookingCase, lastOf, looking}
+use Rattle.switches.specs.LastChange.{lookFaults, lookingTold, lookingCase, lastOf, looking}
 use Rattle.switches.specs.Walk.{Rising, Passed}
 use Rattle.switches.specs.declared.Looking.{Looking}
 use Rattle.switches.specs.declared.Looking.the-variants as answer

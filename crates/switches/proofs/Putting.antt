@@ -1,5 +1,5 @@
 -- Putting the changes from a step on into a table, behind those before it.
-use mathlib.Core.Path.{_≡_, refl, sym, ap, subst, _∙_}
+use mathlib.Core.Path.{_≡_, refl, sym, ap, _∙_}
 use mathlib.Core.Bool.{Bool, true, false, not}
 use mathlib.Core.List.{List, [], _∷_, _++_}
 use Prim.Native.Nat.{ℕ, _+_, _*_, _≤_, _<_}
@@ -9,7 +9,7 @@ use lib.ListN.{length, getD, set, drop, length-drop, drop-of-length-le}
 use lib.Seq.{sets, length-sets, drop-append-le}
 use Rattle.basics.specs.Choice.{if_then_else_}
 use Rattle.basics.proofs.Bytes.{sets-joined}
-use Rattle.switches.specs.Changes.{sentIn, changed, changes}
+use Rattle.switches.specs.Changes.{sentIn, changes}
 use Rattle.switches.specs.Walk.{firstChanges, Fits, Put}
 use Rattle.switches.proofs.Walking.{At, few-steps, tested, at-next, first-same, first-more, first-count, first-few, first-fewer}
 

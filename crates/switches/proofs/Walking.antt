@@ -1,17 +1,16 @@
 -- The walk over a capture's steps: what is known at each of them, and of the changes up to there.
-use mathlib.Core.Path.{_≡_, refl, sym, ap, _∙_}
+use mathlib.Core.Path.{_≡_, sym, ap, _∙_}
 use mathlib.Core.Bool.{Bool, true, false, not}
 use mathlib.Core.List.{List, [], _∷_, _++_, append-nil}
-use Prim.Native.Nat.{ℕ, _+_, _-_, _*_, _/_, _%_, _≤_, _<_}
+use Prim.Native.Nat.{ℕ, _+_, _-_, _*_, _≤_, _<_}
 use native.Mathlib.Omega.{arith}
 use lib.Dec.{eqb}
 use lib.ListN.{length, getD, length-append}
 use borrow.Author.Tests.{ne-eqb, eq-eqb}
-use Rattle.basics.specs.Capture.{most}
 use Rattle.basics.specs.Choice.{if_then_else_}
 use Rattle.switches.specs.Changes.{sentIn, changed, changes}
 use Rattle.switches.specs.Walk.{firstChanges, Walks}
-use Rattle.switches.proofs.Below.{tail, below-next, below-few, below-steps, below-behind, Behind}
+use Rattle.switches.proofs.Below.{tail, below-next, below-few, below-steps, below-behind}
 use Rattle.switches.proofs.Sent.{sent-long, sent-at, before-next}
 
 -- at a step, of those up to which the walk goes; `before` was sent in the step before it

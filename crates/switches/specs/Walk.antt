@@ -1,7 +1,7 @@
 -- Need not be believed: what the functions inside the crate ask of each other and promise each other.
 use mathlib.Core.Path.{_≡_}
 use mathlib.Core.List.{List}
-use Prim.Native.Nat.{ℕ, _+_, _%_, _≤_, _<_}
+use Prim.Native.Nat.{ℕ, _%_, _≤_, _<_}
 use lib.ListN.{length, getD, drop}
 use lib.Seq.{sets}
 use Rattle.basics.specs.Capture.{most}

@@ -1,9 +1,7 @@
 -- `put_changes` meets its contract: at each step the changes before it have been put.
-use mathlib.Core.Path.{ap, _∙_}
 use Prim.Native.Nat.{_-_, _/_}
 use native.Mathlib.Omega.{arith}
-use lib.ListN.{length, drop}
-use lib.Seq.{length-sets}
+use lib.ListN.{length}
 use borrow.Author.Needs.{needs}
 use Rattle.switches.proofs.Sent.{in-steps, past-steps}
 use Rattle.switches.proofs.Walking.{in-bytes, few-steps}
