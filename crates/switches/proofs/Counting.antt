@@ -13,7 +13,7 @@ use Rattle.switches.specs.Changes.{sentIn, changed, changes}
 use Rattle.switches.specs.Walk.{firstChanges, Walks}
 use Rattle.switches.proofs.Below.{lt-or-le}
 use Rattle.switches.proofs.Sent.{sent-long}
-use Rattle.switches.proofs.Walking.{At, few-steps, tested, at-next, first-count, first-few, first-steps, few-changes}
+use Rattle.switches.proofs.Walking.{At, at-start, few-steps, tested, at-next, first-count, first-few, first-steps, few-changes}
 
 -- a number that the next step adds to, if it counts
 added : (t : Bool) (base count more number : ℕ) → count ≡ base + number
@@ -28,15 +28,7 @@ pub record Counting (bytes : List ℕ) (from before number step : ℕ) : Type 0 
 pub counting-start : (bytes : List ℕ) (from before : ℕ) → Walks bytes from → before ≡ getD (0 ∷ sentIn bytes) from 0
     → Counting bytes from before 0 from
 counting-start bytes from before walks prior =
-    record {
-      at =
-          record {
-            walks = record { whole = walks .whole; small = walks .small; inside = omega arith };
-            within = walks .inside;
-            prior = prior;
-          };
-      count = omega arith;
-    }
+    record { at = at-start bytes from before walks prior; count = omega arith }
 
 module _ {bytes : List ℕ} {from before number step : ℕ} (k : Counting bytes from before number step) where
   pub counting-few : number ≤ 16384

@@ -11,7 +11,7 @@ use Rattle.basics.specs.Choice.{if_then_else_}
 use Rattle.basics.proofs.Bytes.{sets-joined}
 use Rattle.switches.specs.Changes.{sentIn, changes}
 use Rattle.switches.specs.Walk.{firstChanges, Fits, Put}
-use Rattle.switches.proofs.Walking.{At, few-steps, tested, at-next, first-same, first-more, first-count, first-few, first-fewer}
+use Rattle.switches.proofs.Walking.{At, at-start, few-steps, tested, at-next, first-same, first-more, first-count, first-few, first-fewer}
 
 pub record Putting (bytes : List ℕ) (known : ℕ) (begun table : List ℕ) (before number step : ℕ) : Type 0 where
   pub at : At bytes (length (sentIn bytes)) before step
@@ -24,16 +24,10 @@ pub putting-start : (bytes : List ℕ) (from known : ℕ) (table : List ℕ) (be
     → Fits bytes from known table → before ≡ getD (0 ∷ sentIn bytes) from 0
     → Putting bytes known table table before known from
 putting-start bytes from known table before fits prior =
-    let walks = fits .walks in
     let none : drop known (firstChanges bytes from) ≡ [] =
     drop-of-length-le (firstChanges bytes from) {i = known} (let e = fits .count in omega arith) in
     record {
-      at =
-          record {
-            walks = record { whole = walks .whole; small = walks .small; inside = omega arith };
-            within = walks .inside;
-            prior = prior;
-          };
+      at = at-start bytes from before (fits .walks) prior;
       count = fits .count;
       more = omega arith;
       room = fits .room;

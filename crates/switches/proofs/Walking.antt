@@ -19,6 +19,16 @@ pub record At (bytes : List ℕ) (steps before step : ℕ) : Type 0 where
   pub within : step ≤ steps
   pub prior : before ≡ getD (0 ∷ sentIn bytes) step 0
 
+-- the walk over all steps from one on
+pub at-start : (bytes : List ℕ) (from before : ℕ) → Walks bytes from → before ≡ getD (0 ∷ sentIn bytes) from 0
+    → At bytes (length (sentIn bytes)) before from
+at-start bytes from before w prior =
+    record {
+      walks = record { whole = w .whole; small = w .small; inside = omega arith };
+      within = w .inside;
+      prior = prior;
+    }
+
 module _ {bytes : List ℕ} {steps before step : ℕ} (at : At bytes steps before step) where
   abbrev here : ℕ
   here = getD bytes (4 * step + 2) 0
