@@ -80,7 +80,7 @@ module _ {bytes : List ℕ} {steps : ℕ} {table : List ℕ} {count before numbe
 
   pub checking-few : number ≤ 16384
   checking-few =
-      let few = few-steps (k .at) .0 in
+      let few = few-steps (k .at) in
       omega (arith, counted, first-few bytes step)
 
   pub checking-same : step < steps → here ≡ before → Checking bytes steps table count here number (step + 1)

@@ -34,7 +34,7 @@ module _ {bytes : List ℕ} {from before number step : ℕ} (k : Counting bytes 
   pub counting-few : number ≤ 16384
   counting-few =
       let count = k .count in
-      let few = few-steps (k .at) .0 in
+      let few = few-steps (k .at) in
       omega (arith, first-few bytes step)
 
   pub counting-next : step < length (sentIn bytes) → {number′ : ℕ}

@@ -133,11 +133,6 @@ module _ (bytes list : List ℕ) (step : ℕ) where
         no-change e =
             rw (taken, last-none passing (sym reached ∙ e)) (record { numbers = refl; decided = refl })
 
-        pub in-list : (number ≡ 0 → ⊥) → number - 1 < length list
-        in-list some =
-            let inside = p .within in
-            omega arith
-
         pub change-found : (number ≡ 0 → ⊥) → Promised (answer.Change (getD list (number - 1) 0))
         unfolding looking
         change-found some =

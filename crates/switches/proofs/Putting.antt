@@ -53,7 +53,7 @@ module _ {bytes : List ℕ} {known : ℕ} {begun table : List ℕ} {before numbe
   pub putting-few : number ≤ 16384
   putting-few =
       let count = p .count in
-      let few = few-steps (p .at) .0 in
+      let few = few-steps (p .at) in
       omega (arith, first-few bytes step)
 
   -- where the step counts there is an entry left for it

@@ -36,13 +36,13 @@ module _ {bytes : List ℕ} {steps before step : ℕ} (at : At bytes steps befor
   sent-here : getD (sentIn bytes) step 0 ≡ here
   sent-here = sent-at bytes step (at .walks .whole)
 
-  pub few-steps : (step ≤ 16384) × (steps ≤ 16384)
+  pub few-steps : step ≤ 16384
   few-steps =
       let long = sent-long bytes in
       let small = at .walks .small in
       let inside = at .walks .inside in
       let within = at .within in
-      (omega arith, omega arith)
+      omega arith
 
   pub in-bytes : step < steps → 4 * step + 2 < length bytes
   in-bytes h =

@@ -44,7 +44,7 @@ shared-slice-read-sent c =
 
 cast-put-change : tie.Need-cast-put-change Inv-loop μ-loop
 cast-put-change c =
-    record { fits = omega (arith, few-steps (c .before .before .before .loop .inv .at) .0) }
+    record { fits = omega (arith, few-steps (c .before .before .before .loop .inv .at)) }
 
 put-change-requires : tie.Need-put-change-requires Inv-loop μ-loop
 put-change-requires c κs =
