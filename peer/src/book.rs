@@ -6,7 +6,6 @@
 //! So the reader has only to check them, and the writer works them out.
 
 use crate::settings::{self, Unfit};
-use std::io::{self, Read};
 
 /// The bound of refusal 20. No book is as long as that: the contents come to two
 /// bytes more than a multiple of four, and the bodies to a multiple of four, so
@@ -130,14 +129,6 @@ impl Contents {
     pub fn entries(&self) -> Option<&[Entry]> {
         self.places.get(..usize::from(self.count))
     }
-}
-
-/// The bytes of a book, as a program is handed them. Of one that is too long there is
-/// no more than shows it: one byte past the bound.
-pub fn load(input: impl Read) -> io::Result<Vec<u8>> {
-    let mut book = Vec::new();
-    input.take(MOST_BYTES as u64 + 1).read_to_end(&mut book)?;
-    Ok(book)
 }
 
 /// Reads the contents of a book. When it does not refuse, the whole book is

@@ -58,12 +58,16 @@ mod library;
 mod library;
 mod lists;
 mod pair;
+mod programs;
+mod rows;
 mod sequences;
 mod settings;
 mod switches;
+mod table;
 mod trials;
 
 use library::Library;
+use programs::Comparison;
 use std::ffi::OsString;
 use std::io::{self, BufWriter, StdoutLock, Write};
 use std::path::Path;
@@ -86,14 +90,18 @@ fn main() -> ExitCode {
         [word] if word == "sequences" => finish(print(sequences::write)),
         [word] if word == "trials" => finish(print(trials::write)),
         [word] if word == "k1" => finish(print(pair::values::write)),
-        [word] if word == "judge" => finish(print(|out| judge::table::write(io::stdin(), out))),
-        [word] if word == "switches" => {
-            finish(print(|out| switches::table::write(io::stdin(), out)))
+        [word] if word == "judge" => {
+            finish(print(|out| judge::table::Table::print(io::stdin(), out)))
         }
-        [word] if word == "books" => compare_books(Path::new(books::USUAL_PROGRAM)),
-        [word, program] if word == "books" => compare_books(Path::new(program)),
-        [word] if word == "lists" => compare_lists(Path::new(lists::USUAL_PROGRAM)),
-        [word, program] if word == "lists" => compare_lists(Path::new(program)),
+        [word] if word == "switches" => {
+            finish(print(|out| switches::table::Table::print(io::stdin(), out)))
+        }
+        [word, program @ ..] if word == "books" && program.len() <= 1 => {
+            compare_program(&books::COMPARISON, program.first())
+        }
+        [word, program @ ..] if word == "lists" && program.len() <= 1 => {
+            compare_program(&lists::COMPARISON, program.first())
+        }
         [word] if word == "compare" => with_library(compare_library),
         [word] if word == "bench" => with_library(bench_library),
         _ => {
@@ -119,23 +127,16 @@ fn finish(printed: io::Result<()>) -> ExitCode {
     }
 }
 
-fn compare_books(program: &Path) -> ExitCode {
-    match books::compare(program) {
+/// With the file that is named, or else with that of the proved program.
+fn compare_program(comparison: &Comparison, named: Option<&OsString>) -> ExitCode {
+    let program = named.map_or(Path::new(comparison.program), Path::new);
+    match comparison.compare(program) {
         Ok(finding) => report(finding.clean, &finding.text),
-        Err(error) => cannot_run(program, &error),
+        Err(error) => {
+            complain(&format!("peer: cannot run {}: {error}", program.display()));
+            ExitCode::from(2)
+        }
     }
-}
-
-fn compare_lists(program: &Path) -> ExitCode {
-    match lists::compare(program) {
-        Ok(finding) => report(finding.clean, &finding.text),
-        Err(error) => cannot_run(program, &error),
-    }
-}
-
-fn cannot_run(program: &Path, error: &io::Error) -> ExitCode {
-    complain(&format!("peer: cannot run {}: {error}", program.display()));
-    ExitCode::from(2)
 }
 
 fn compare_library(library: &Library) -> ExitCode {

@@ -102,6 +102,17 @@ fn without_captures() -> Vec<Vec<u8>> {
     books.map(<[u8]>::to_vec).into()
 }
 
+/// Whether every refusal of the reader comes up among them.
+#[cfg(test)]
+pub fn have_every_refusal(books: &[Vec<u8>]) -> bool {
+    let refusals: std::collections::BTreeSet<u8> = books
+        .iter()
+        .filter_map(|book| book::read(book).err())
+        .map(book::Refusal::number)
+        .collect();
+    refusals.into_iter().eq((20..=28).chain([31, 32]))
+}
+
 #[cfg(test)]
 mod tests {
     use super::*;
@@ -109,12 +120,7 @@ mod tests {
 
     #[test]
     fn every_refusal_of_the_reader_comes_up() {
-        let refusals: BTreeSet<u8> = books()
-            .iter()
-            .filter_map(|book| book::read(book).err())
-            .map(book::Refusal::number)
-            .collect();
-        assert!(refusals.into_iter().eq((20..=28).chain([31, 32])));
+        assert!(have_every_refusal(&books()));
     }
 
     #[test]

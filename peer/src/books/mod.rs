@@ -1,59 +1,48 @@
-//! The comparison of `peer books`: books are made, another program is run on each
-//! of them, and what it prints is compared byte for byte with the table that this
-//! reading prints.
+//! The books of `peer books`, the captures of which are judged, and how they are made.
 
 mod alarms;
 pub mod capture;
 pub mod changes;
 mod commands;
-mod compare;
-mod crew;
-mod damage;
+pub mod damage;
 mod lockout;
 pub mod pairs;
-mod process;
-mod report;
 pub mod runs;
 mod steps;
 mod unfit;
 mod waits;
 
+use crate::judge::table::{Line, Table};
+use crate::judge::Verdict;
+use crate::programs::{group, Comparison, Group, Kind, Reading};
 use capture::bind;
-use compare::Kind;
-pub use compare::{differences, Difference};
-pub use crew::{compare_all, Gather};
-pub use process::run;
-use report::Report;
-pub use report::{captured, write_rows};
-use std::io;
-use std::path::Path;
 
-/// The proved program itself, which `rt check judge` builds, on the machine that it
-/// is compiled for; elsewhere another file has to be named. The scripts at the root
-/// are not compared here: they look for changes of the source on every run, and say
-/// so, which for thousands of books would take many minutes.
-pub const USUAL_PROGRAM: &str = "target/bin/judge";
+pub const COMPARISON: Comparison = Comparison {
+    program: "target/bin/judge",
+    groups: &GROUPS,
+    read: |book| Reading::of(Table::of(book), kind),
+    lines: "captures",
+    // By the order.
+    least: (20_000, "are asked for"),
+    columns: &[
+        ("  captures", |counts| counts.lines),
+        ("  explained", |counts| counts.of(Kind::Explained)),
+        ("  unexplained", |counts| counts.of(Kind::Unexplained)),
+    ],
+    tell: |entry| format!(" n {}, mask {}, W {}", entry.n, entry.mask, entry.w),
+};
 
-/// Books of one sort.
-struct Group {
-    name: &'static str,
-    /// The answers that its books get by this reading: all of these, and no
-    /// others.
-    shows: &'static [Kind],
-    books: fn() -> Vec<Vec<u8>>,
-}
-
-/// A book to be compared.
-struct Job {
-    /// The place of its group.
-    group: usize,
-    book: Vec<u8>,
+fn kind(line: &Line) -> Kind {
+    match line.verdict {
+        Verdict::Explained(_) => Kind::Explained,
+        Verdict::Unexplained(_) => Kind::Unexplained,
+    }
 }
 
 const EXPLAINED: &[Kind] = &[Kind::Explained];
 const BOTH: &[Kind] = &[Kind::Explained, Kind::Unexplained];
+const ALL: &[Kind] = &[Kind::Explained, Kind::Unexplained, Kind::RefusedBook];
 
-/// In the order in which they are reported.
 const GROUPS: [Group; 12] = [
     group("runs", EXPLAINED, || bind(&runs::captures())),
     group("flipped", BOTH, || bind(&changes::flipped())),
@@ -66,56 +55,13 @@ const GROUPS: [Group; 12] = [
     group("waits", BOTH, || bind(&waits::captures())),
     group("commands", BOTH, || bind(&commands::captures())),
     group("steps", BOTH, || bind(&steps::captures())),
-    group("damaged", &Kind::ALL, damage::books),
+    group("damaged", ALL, damage::books),
 ];
-
-const fn group(name: &'static str, shows: &'static [Kind], books: fn() -> Vec<Vec<u8>>) -> Group {
-    Group { name, shows, books }
-}
-
-/// What the comparison found.
-pub struct Finding {
-    /// Neither a difference, nor a group that does not show what it is for.
-    pub clean: bool,
-    pub text: Vec<u8>,
-}
-
-/// Compares this reading with a program. The error is that of running it.
-pub fn compare(program: &Path) -> io::Result<Finding> {
-    // A program that cannot be run shows here, before any book is made.
-    run(program, &[])?;
-    let jobs = jobs();
-    let mut report = Report::new(&GROUPS, &jobs);
-    let compare = |job: usize| compare::compare(program, &jobs[job].book);
-    compare_all(jobs.len(), compare, &mut report, &mut io::stderr())?;
-    let mut text = Vec::new();
-    report.write(&mut text)?;
-    Ok(Finding {
-        clean: report.is_clean(),
-        text,
-    })
-}
 
 /// The books of all groups whose captures are judged.
 pub fn sound() -> Vec<Vec<u8>> {
     let [sound @ .., _] = &GROUPS;
-    sound.iter().flat_map(|group| (group.books)()).collect()
-}
-
-/// The books of the last group.
-pub fn damaged() -> Vec<Vec<u8>> {
-    let [.., damaged] = &GROUPS;
-    (damaged.books)()
-}
-
-fn jobs() -> Vec<Job> {
-    GROUPS
-        .iter()
-        .enumerate()
-        .flat_map(|(group, Group { books, .. })| {
-            books().into_iter().map(move |book| Job { group, book })
-        })
-        .collect()
+    sound.iter().flat_map(Group::books).collect()
 }
 
 #[cfg(test)]
@@ -123,12 +69,13 @@ mod tests {
     use super::*;
     use crate::book::{self, Contents};
     use crate::judge::{judge, scan};
+    use crate::programs::Job;
 
     /// Without those that stand in damaged books.
     #[test]
     fn there_are_as_many_captures_as_the_order_asks_for() {
         let damaged = GROUPS.len() - 1;
-        let jobs = jobs();
+        let jobs = COMPARISON.jobs();
         let sound = jobs.iter().filter(|job| job.group != damaged);
         let captures: usize = sound
             .map(|job| book::read(&job.book).expect("a sound book"))
@@ -142,7 +89,7 @@ mod tests {
     #[test]
     fn the_judges_agree_on_short_captures() {
         let mut captures = 0;
-        for Job { book, .. } in jobs() {
+        for Job { book, .. } in COMPARISON.jobs() {
             let contents = book::read(&book).unwrap_or(Contents::ZEROS);
             let entries = contents.entries().unwrap_or_default();
             for entry in entries
@@ -160,7 +107,7 @@ mod tests {
 
     #[test]
     fn the_books_are_the_same_each_time() {
-        let books = || jobs().into_iter().map(|job| job.book);
+        let books = || COMPARISON.jobs().into_iter().map(|job| job.book);
         assert!(books().eq(books()));
     }
 }

@@ -247,7 +247,7 @@ mod tests {
         let books = of_fitting(&mut Draws::from_seed(1));
         let mut captures = 0;
         for book in &books {
-            let Table::Judged(lines) = Table::of(book) else {
+            let Table::Captures(lines) = Table::of(book) else {
                 panic!("a book with settings that fit");
             };
             captures += lines.len();

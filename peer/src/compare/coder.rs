@@ -2,7 +2,7 @@
 //! inputs or as many as can be.
 
 use super::lent::Lent;
-use super::tally::{both, Tally};
+use super::tally::{both, Caller, Tally};
 use crate::door::{Door, DECODED, ENCODED, RECORD};
 use crate::draws::Bits;
 
@@ -57,53 +57,37 @@ pub fn decode(library: &dyn Door, part: usize) -> Tally {
 /// without a remote defect.
 pub fn encode(library: &dyn Door, part: usize) -> Tally {
     let (n, code) = (SIZES[part / 256], (part % 256) as u8);
-    let mut encoder = Encoder::new(library, 3, part);
+    let mut caller = Caller::new(library, 3, part);
     for [channel, bridged] in (0..=u16::MAX).map(u16::to_be_bytes) {
         for remote in [0, 1] {
-            encoder.encode([n, code, channel, bridged, remote]);
+            encode_one(&mut caller, [n, code, channel, bridged, remote]);
         }
     }
-    encoder.tally
+    caller.tally
 }
 
 /// Every size, with the bytes that matter and a few more; remote flags above 1
 /// among them.
 pub fn encode_by_size(library: &dyn Door, part: usize) -> Tally {
-    let mut encoder = Encoder::new(library, 4, part);
+    let mut caller = Caller::new(library, 4, part);
     let bytes: Vec<u8> = (0..=17).chain([31, 128, 240, 255]).collect();
     let grid = bytes.len().pow(3);
     for place in 0..grid {
         let byte = |weight: u32| bytes[place / bytes.len().pow(weight) % bytes.len()];
         for remote in [0, 1, 2, 255] {
-            encoder.encode([part as u8, byte(2), byte(1), byte(0), remote]);
+            let given = [part as u8, byte(2), byte(1), byte(0), remote];
+            encode_one(&mut caller, given);
         }
     }
-    encoder.tally
+    caller.tally
 }
 
-struct Encoder<'a> {
-    library: &'a dyn Door,
-    bits: Bits,
-    tally: Tally,
-}
-
-impl<'a> Encoder<'a> {
-    fn new(library: &'a dyn Door, seed: u64, part: usize) -> Self {
-        Self {
-            library,
-            bits: Bits::from_seeds(seed, part),
-            tally: Tally::default(),
-        }
-    }
-
-    fn encode(&mut self, given: [u8; 5]) {
-        let [n, code, channel, bridged, remote] = given;
-        let memory = Lent::<ENCODED>::drawn(&mut self.bits);
-        let both = both(self.library, &memory, |door, memory| {
-            door.encode(n, code, channel, bridged, remote, &mut memory.bytes)
-        });
-        self.tally.add(&both, || {
-            format!("n {n}, code {code}, channel {channel}, bridged {bridged}, remote {remote}")
-        });
-    }
+fn encode_one(caller: &mut Caller, given: [u8; 5]) {
+    let [n, code, channel, bridged, remote] = given;
+    let memory = Lent::<ENCODED>::drawn(&mut caller.bits);
+    caller.call(
+        &memory,
+        |door, memory| door.encode(n, code, channel, bridged, remote, &mut memory.bytes),
+        || format!("n {n}, code {code}, channel {channel}, bridged {bridged}, remote {remote}"),
+    );
 }

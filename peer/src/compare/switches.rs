@@ -5,107 +5,28 @@
 
 mod drawn;
 mod faults;
+mod kinds;
 mod small;
 mod turns;
 mod wrong;
 
 use super::lent::{Lent, LentList, LentSlice, Memory, Part};
-use super::tally::{both, Both, Tally};
+use super::tally::{Both, Caller};
 use crate::book::{MOST_BYTES, STEP_BYTES};
-use crate::door::{Door, CHANGE, CHANGES};
+use crate::door::{CHANGE, CHANGES};
 use crate::draws::Bits;
 pub use drawn::{extensions as drawn_extensions, lookups as drawn_lookups};
-use faults::{EXTENSION_ORDER, LOOKUP_ORDER};
+use kinds::Kind;
+pub use kinds::{
+    DRAWN_EXTENSIONS, DRAWN_LOOKUPS, EXTENSIONS_IN_TURN, SMALL_EXTENSIONS, SMALL_LOOKUPS,
+};
 pub use small::{extensions as small_extensions, lookups as small_lookups};
+use std::fmt::Debug;
 pub use turns::in_turn;
 
 pub const SMALL_PARTS: usize = small::PARTS;
 pub const DRAWN_PARTS: usize = drawn::PARTS;
 pub const TURN_PARTS: usize = turns::PARTS;
-
-/// What comes up of extensions: first those that are not refused, then the refusals of
-/// which two apply at once. A name is left out where a subject does not come by it.
-pub const DRAWN_EXTENSIONS: [&str; 16] = [
-    "afresh",
-    "from a middle",
-    "nothing new",
-    "no changes",
-    "a change a step",
-    "of 16,384 steps",
-    "8 and 9",
-    "8 and 13",
-    "8 and 16",
-    "8 and 12",
-    "9 and 13",
-    "9 and 16",
-    "9 and 12",
-    "13 and 16",
-    "13 and 12",
-    "16 and 12",
-];
-pub const SMALL_EXTENSIONS: [&str; 16] = [
-    "afresh",
-    "from a middle",
-    "nothing new",
-    "no changes",
-    "a change a step",
-    "",
-    "",
-    "",
-    "",
-    "",
-    "",
-    "",
-    "",
-    "13 and 16",
-    "13 and 12",
-    "16 and 12",
-];
-pub const EXTENSIONS_IN_TURN: [&str; 5] = [
-    "afresh",
-    "from a middle",
-    "nothing new",
-    "no changes",
-    "a change a step",
-];
-const AFRESH: usize = 0;
-const FROM_A_MIDDLE: usize = 1;
-const NOTHING_NEW: usize = 2;
-const NO_CHANGES: usize = 3;
-const EACH_CHANGED: usize = 4;
-const LONG: usize = 5;
-const PAIRS: usize = 6;
-
-/// What comes up of lookups, in the same way.
-pub const DRAWN_LOOKUPS: [&str; 10] = [
-    "found",
-    "none",
-    "right up to the step, and refused",
-    "of 16,384 steps",
-    "8 and 9",
-    "8 and 13",
-    "8 and 16",
-    "9 and 13",
-    "9 and 16",
-    "13 and 16",
-];
-pub const SMALL_LOOKUPS: [&str; 10] = [
-    "found",
-    "none",
-    "right up to the step, and refused",
-    "",
-    "",
-    "",
-    "",
-    "",
-    "",
-    "13 and 16",
-];
-const FOUND: usize = 0;
-const NONE: usize = 1;
-const RIGHT_UP_TO_THE_STEP: usize = 2;
-const LONG_LOOKUP: usize = 3;
-const LOOKUP_PAIRS: usize = 4;
 
 /// What an extension is handed, besides the output.
 struct Extension {
@@ -122,143 +43,113 @@ struct Lookup {
     step: u16,
 }
 
+/// What both are lent.
 #[derive(Clone, PartialEq)]
-struct ExtensionMemory {
+struct ListMemory<const N: usize> {
     capture: LentSlice,
-    table: LentList,
-    out: Lent<CHANGES>,
-}
-
-impl Memory for ExtensionMemory {
-    fn parts(&self) -> Vec<(&'static str, Part<'_>)> {
-        vec![
-            ("capture", self.capture.part()),
-            ("table", self.table.part()),
-            ("out", self.out.part()),
-        ]
-    }
-}
-
-#[derive(Clone, PartialEq)]
-struct LookupMemory {
-    capture: LentSlice,
+    /// What the header calls the list.
+    name: &'static str,
     list: LentList,
-    out: Lent<CHANGE>,
+    out: Lent<N>,
 }
 
-impl Memory for LookupMemory {
+impl<const N: usize> ListMemory<N> {
+    fn new(bits: &mut Bits, capture: &[u8], name: &'static str, list: &[u16]) -> Self {
+        Self {
+            capture: LentSlice::new(bits, capture),
+            name,
+            list: LentList::new(bits, list),
+            out: Lent::drawn(bits),
+        }
+    }
+}
+
+impl<const N: usize> Memory for ListMemory<N> {
     fn parts(&self) -> Vec<(&'static str, Part<'_>)> {
         vec![
             ("capture", self.capture.part()),
-            ("list", self.list.part()),
+            (self.name, self.list.part()),
             ("out", self.out.part()),
         ]
     }
 }
 
-/// Calls both sides, and counts what comes of it. What is lent besides the arguments,
-/// outputs and guards, is drawn.
-struct Caller<'a> {
-    library: &'a dyn Door,
-    bits: Bits,
-    tally: Tally,
-}
-
-impl<'a> Caller<'a> {
-    fn new(library: &'a dyn Door, seed: u64, part: usize) -> Self {
-        Self {
-            library,
-            bits: Bits::from_seeds(seed, part),
-            tally: Tally::default(),
-        }
-    }
-
-    fn extend(&mut self, given: &Extension) -> Both<ExtensionMemory> {
+impl Caller<'_> {
+    fn extend(&mut self, given: &Extension) -> Both<ListMemory<CHANGES>> {
         let Extension { listed, count, .. } = *given;
-        let memory = ExtensionMemory {
-            capture: LentSlice::new(&mut self.bits, &given.capture),
-            table: LentList::new(&mut self.bits, &given.table),
-            out: Lent::drawn(&mut self.bits),
-        };
-        let both = both(self.library, &memory, |door, memory| {
-            let ExtensionMemory {
-                capture,
-                table,
-                out,
-            } = memory;
-            let (capture, table) = (capture.bytes(), table.entries_mut());
-            door.switches(capture, listed, count, table, &mut out.bytes)
-        });
-        self.tally.add(&both, || given.told());
-        let ExtensionMemory { table, out, .. } = &both.peer.memory;
-        let answered = (both.peer.refusal, out.bytes, table.entries());
+        let memory = ListMemory::new(&mut self.bits, &given.capture, "table", &given.table);
+        let both = self.call(
+            &memory,
+            |door, memory: &mut ListMemory<CHANGES>| {
+                let (capture, table) = (memory.capture.bytes(), memory.list.entries_mut());
+                door.switches(capture, listed, count, table, &mut memory.out.bytes)
+            },
+            || given.told(),
+        );
+        let left = &both.peer.memory;
+        let answered = (both.peer.refusal, left.out.bytes, left.list.entries());
         let faults = given.faults();
-        let expected = given.by_definition(&faults);
-        if answered != (expected.0, expected.1, &expected.2) {
-            let told = || format!("{}: not what the paper says: {answered:?}", given.told());
-            self.tally.differ(told);
-        }
+        let (refusal, out, table) = given.by_definition(&faults);
+        self.hold(answered, (refusal, out, &table), || given.told());
         self.count_extension(given, &faults);
         both
     }
 
+    /// Holds what this side answered against what the paper says.
+    fn hold<T: PartialEq + Debug>(&mut self, answered: T, expected: T, told: impl Fn() -> String) {
+        if answered != expected {
+            let told = || format!("{}: not what the paper says: {answered:?}", told());
+            self.tally.differ(told);
+        }
+    }
+
     fn count_extension(&mut self, given: &Extension, faults: &[u8]) {
-        let pairs = faults::pairs(&EXTENSION_ORDER, faults);
-        pairs.for_each(|pair| self.tally.count(PAIRS + pair));
+        kinds::count_pairs(&mut self.tally, faults);
         if !faults.is_empty() {
             return;
         }
         let steps = given.capture.len() / STEP_BYTES;
         let listed = usize::from(given.listed);
         let changes = faults::changed(&given.capture).len();
-        for (kind, applies) in [
-            (AFRESH, listed == 0),
-            (FROM_A_MIDDLE, 0 < listed && listed < steps),
-            (NOTHING_NEW, 0 < listed && listed == steps),
-            (NO_CHANGES, 0 < steps && changes == 0),
-            (EACH_CHANGED, 1 < steps && changes == steps),
-            (LONG, given.capture.len() == MOST_BYTES),
-        ] {
-            if applies {
-                self.tally.count(kind);
-            }
-        }
+        let kinds = [
+            (Kind::Afresh, listed == 0),
+            (Kind::FromAMiddle, 0 < listed && listed < steps),
+            (Kind::NothingNew, 0 < listed && listed == steps),
+            (Kind::NoChanges, 0 < steps && changes == 0),
+            (Kind::EachChanged, 1 < steps && changes == steps),
+            (Kind::Long, given.capture.len() == MOST_BYTES),
+        ];
+        kinds::count(&mut self.tally, kinds);
     }
 
-    fn look_up(&mut self, given: &Lookup) -> Both<LookupMemory> {
-        let memory = LookupMemory {
-            capture: LentSlice::new(&mut self.bits, &given.capture),
-            list: LentList::new(&mut self.bits, &given.list),
-            out: Lent::drawn(&mut self.bits),
-        };
-        let both = both(self.library, &memory, |door, memory| {
-            let LookupMemory { capture, list, out } = memory;
-            let (capture, list) = (capture.bytes(), list.entries());
-            door.last_change(capture, list, given.step, &mut out.bytes)
-        });
-        self.tally.add(&both, || given.told());
+    fn look_up(&mut self, given: &Lookup) -> Both<ListMemory<CHANGE>> {
+        let memory = ListMemory::new(&mut self.bits, &given.capture, "list", &given.list);
+        let both = self.call(
+            &memory,
+            |door, memory: &mut ListMemory<CHANGE>| {
+                let (capture, list) = (memory.capture.bytes(), memory.list.entries());
+                door.last_change(capture, list, given.step, &mut memory.out.bytes)
+            },
+            || given.told(),
+        );
         let answered = (both.peer.refusal, both.peer.memory.out.bytes);
         let faults = given.faults();
-        if answered != given.by_definition(&faults) {
-            let told = || format!("{}: not what the paper says: {answered:?}", given.told());
-            self.tally.differ(told);
-        }
+        self.hold(answered, given.by_definition(&faults), || given.told());
         self.count_lookup(given, &faults, answered.1);
         both
     }
 
     fn count_lookup(&mut self, given: &Lookup, faults: &[u8], [found, ..]: [u8; CHANGE]) {
-        let pairs = faults::pairs(&LOOKUP_ORDER, faults);
-        pairs.for_each(|pair| self.tally.count(LOOKUP_PAIRS + pair));
-        if faults == [faults::OTHER_LIST] && given.is_right_up_to_the_step() {
-            self.tally.count(RIGHT_UP_TO_THE_STEP);
-        }
-        if faults.is_empty() {
-            self.tally.count(if found == 1 { FOUND } else { NONE });
-            if given.capture.len() == MOST_BYTES {
-                self.tally.count(LONG_LOOKUP);
-            }
-        }
+        kinds::count_pairs(&mut self.tally, faults);
+        let answered = faults.is_empty();
+        let other_behind = faults == [faults::OTHER_LIST] && given.is_right_up_to_the_step();
+        let kinds = [
+            (Kind::Found, answered && found == 1),
+            (Kind::NoneFound, answered && found != 1),
+            (Kind::RightUpToTheStep, other_behind),
+            (Kind::Long, answered && given.capture.len() == MOST_BYTES),
+        ];
+        kinds::count(&mut self.tally, kinds);
     }
 }
 

@@ -2,12 +2,13 @@
 
 use super::lent::{Memory, Part};
 use crate::door::{Door, Peer};
+use crate::draws::Bits;
 use std::fmt::Write;
 use std::hint::black_box;
 
 /// One more than the greatest refusal.
 const REFUSALS: usize = 33;
-const MOST_KINDS: usize = 17;
+const MOST_KINDS: usize = 19;
 /// Differences of one part that are told in full.
 const MOST_TOLD: usize = 3;
 /// Bytes of a part of memory that are told.
@@ -101,6 +102,35 @@ impl Tally {
         for (total, number) in kinds.chain(refusals) {
             *total += number;
         }
+    }
+}
+
+/// Calls both sides, and counts what comes of it. What is lent besides the arguments,
+/// outputs and guards, is drawn.
+pub struct Caller<'a> {
+    library: &'a dyn Door,
+    pub bits: Bits,
+    pub tally: Tally,
+}
+
+impl<'a> Caller<'a> {
+    pub fn new(library: &'a dyn Door, seed: u64, part: usize) -> Self {
+        Self {
+            library,
+            bits: Bits::from_seeds(seed, part),
+            tally: Tally::default(),
+        }
+    }
+
+    pub fn call<M: Memory>(
+        &mut self,
+        memory: &M,
+        call: impl Fn(&dyn Door, &mut M) -> u8,
+        given: impl FnOnce() -> String,
+    ) -> Both<M> {
+        let both = both(self.library, memory, call);
+        self.tally.add(&both, given);
+        both
     }
 }
 

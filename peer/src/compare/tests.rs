@@ -145,6 +145,20 @@ fn subject(name: &str) -> &'static Subject {
         .expect("a subject of that name")
 }
 
+/// All of its parts.
+fn all_of(subject: &Subject) -> Tally {
+    let mut tally = Tally::default();
+    for part in 0..subject.parts {
+        tally.join((subject.compare)(&Peer, part));
+    }
+    tally
+}
+
+/// Whether a difference is told in which this stands.
+fn tells(tally: &Tally, text: &str) -> bool {
+    tally.told.iter().any(|told| told.contains(text))
+}
+
 /// One part of it, with a group that is not refused.
 fn part_of(name: &str, library: &dyn Door) -> Tally {
     (subject(name).compare)(library, 2)
@@ -186,10 +200,7 @@ fn what_is_not_wrong_has_no_differences() {
 #[test]
 fn every_k1_is_looked_at_for_every_n() {
     let subject = subject("k1");
-    let mut tally = Tally::default();
-    for part in 0..subject.parts {
-        tally.join((subject.compare)(&Peer, part));
-    }
+    let tally = all_of(subject);
     assert_eq!((tally.calls, tally.differences), (subject.least, 0));
     assert_eq!(tally.refusals[0], tally.calls);
     let usable: u64 = (1..=14).map(|n| 8 * n + 5).sum();

@@ -2,15 +2,11 @@
 
 use super::{judge, Verdict};
 use crate::book::{self, Entry};
+use crate::table::{self, Captured};
 use std::fmt::{self, Display, Formatter};
-use std::io::{self, Read, Write};
+use std::slice;
 
-/// What is printed of one book.
-pub enum Table {
-    Judged(Vec<Line>),
-    /// The number of the reader's refusal.
-    Refused(u8),
-}
+pub type Table = table::Table<Line>;
 
 /// What is printed of one capture, besides its number. The paper has words for one
 /// that the judge refuses, but no book that is read comes by them any more: its
@@ -21,8 +17,11 @@ pub struct Line {
     pub verdict: Verdict,
 }
 
-impl Line {
-    /// The entry is one that was read from that book.
+impl Captured for Line {
+    const HEADER: &'static str = "capture sections steps verdict at";
+
+    type Line = Self;
+
     fn of(book: &[u8], entry: &Entry) -> Self {
         let Entry {
             n, mask, w, steps, ..
@@ -34,31 +33,9 @@ impl Line {
             verdict: judged.expect("a capture that was read is not refused"),
         }
     }
-}
 
-impl Table {
-    pub fn of(book: &[u8]) -> Self {
-        match book::read(book) {
-            Ok(contents) => {
-                let entries = contents.entries().unwrap_or_default();
-                Self::Judged(entries.iter().map(|entry| Line::of(book, entry)).collect())
-            }
-            Err(refusal) => Self::Refused(refusal.number()),
-        }
-    }
-}
-
-impl Display for Table {
-    fn fmt(&self, f: &mut Formatter) -> fmt::Result {
-        let lines = match self {
-            Self::Judged(lines) => lines,
-            Self::Refused(number) => return writeln!(f, "refused {number}"),
-        };
-        writeln!(f, "capture sections steps verdict at")?;
-        for (capture, line) in lines.iter().enumerate() {
-            writeln!(f, "{capture} {line}")?;
-        }
-        Ok(())
+    fn lines(&self) -> &[Self] {
+        slice::from_ref(self)
     }
 }
 
@@ -72,11 +49,6 @@ impl Display for Line {
     }
 }
 
-/// Reads one book and prints its table.
-pub fn write(input: impl Read, out: &mut impl Write) -> io::Result<()> {
-    write!(out, "{}", Table::of(&book::load(input)?))
-}
-
 #[cfg(test)]
 mod tests {
     use super::*;
@@ -84,7 +56,7 @@ mod tests {
 
     fn printed(book: &[u8]) -> String {
         let mut out = Vec::new();
-        write(book, &mut out).unwrap();
+        Table::print(book, &mut out).unwrap();
         String::from_utf8(out).unwrap()
     }
 

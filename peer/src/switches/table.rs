@@ -5,16 +5,10 @@ use super::{changes, sent};
 use crate::book::{self, Entry};
 use crate::judge::rows_of;
 use crate::pair::{nibbles, Request};
+use crate::table::{self, Captured};
 use std::fmt::{self, Display, Formatter};
-use std::io::{self, Read, Write};
 
-/// What is printed of one book.
-pub enum Table {
-    /// The changes of each capture.
-    Listed(Vec<Vec<Change>>),
-    /// The number of the reader's refusal.
-    Refused(u8),
-}
+pub type Table = table::Table<Vec<Change>>;
 
 /// What is printed of one change, behind the number of its capture.
 pub struct Change {
@@ -22,42 +16,24 @@ pub struct Change {
     pub k1: u8,
 }
 
-impl Table {
-    pub fn of(book: &[u8]) -> Self {
-        match book::read(book) {
-            Ok(contents) => {
-                let entries = contents.entries().unwrap_or_default();
-                Self::Listed(entries.iter().map(|entry| listed(book, entry)).collect())
-            }
-            Err(refusal) => Self::Refused(refusal.number()),
-        }
+impl Captured for Vec<Change> {
+    const HEADER: &'static str = "capture step k1 request channel";
+
+    type Line = Change;
+
+    fn of(book: &[u8], entry: &Entry) -> Self {
+        let rows = rows_of(book::body(book, entry));
+        let rows = rows.expect("a capture that was read is not refused");
+        changes(rows)
+            .map(|step| Change {
+                step,
+                k1: sent(&rows[usize::from(step)]),
+            })
+            .collect()
     }
-}
 
-/// The entry is one that was read from that book.
-fn listed(book: &[u8], entry: &Entry) -> Vec<Change> {
-    let rows = rows_of(book::body(book, entry)).expect("a capture that was read is not refused");
-    changes(rows)
-        .map(|step| Change {
-            step,
-            k1: sent(&rows[usize::from(step)]),
-        })
-        .collect()
-}
-
-impl Display for Table {
-    fn fmt(&self, f: &mut Formatter) -> fmt::Result {
-        let captures = match self {
-            Self::Listed(captures) => captures,
-            Self::Refused(number) => return writeln!(f, "refused {number}"),
-        };
-        writeln!(f, "capture step k1 request channel")?;
-        for (capture, changes) in captures.iter().enumerate() {
-            for change in changes {
-                writeln!(f, "{capture} {change}")?;
-            }
-        }
-        Ok(())
+    fn lines(&self) -> &[Change] {
+        self
     }
 }
 
@@ -87,11 +63,6 @@ fn name(code: u8) -> &'static str {
     }
 }
 
-/// Reads one book and prints its table.
-pub fn write(input: impl Read, out: &mut impl Write) -> io::Result<()> {
-    write!(out, "{}", Table::of(&book::load(input)?))
-}
-
 #[cfg(test)]
 mod tests {
     use super::*;
@@ -100,9 +71,7 @@ mod tests {
     const HEADER: &str = "capture step k1 request channel\n";
 
     fn printed(book: &[u8]) -> String {
-        let mut out = Vec::new();
-        write(book, &mut out).unwrap();
-        String::from_utf8(out).unwrap()
+        Table::of(book).to_string()
     }
 
     /// A book of one capture, in which these are sent.
@@ -160,13 +129,6 @@ capture step k1 request channel
 
     #[test]
     fn a_refused_book_is_one_line() {
-        let sizes = [(65_536, 22), (65_537, 20), (70_000, 20), (0, 21), (1, 21)];
-        for (bytes, refusal) in sizes {
-            assert_eq!(printed(&vec![0; bytes]), format!("refused {refusal}\n"));
-        }
         assert_eq!(printed(&PAPER_BOOK[..45]), "refused 27\n");
-        let mut book = PAPER_BOOK;
-        book[14] = 0;
-        assert_eq!(printed(&book), "refused 31\n");
     }
 }

@@ -1,4 +1,5 @@
 use super::*;
+use crate::rows::every_row;
 
 /// A capture in which these are sent. All else is what would show if it were looked at.
 fn capture(sent: &[u8]) -> Vec<u8> {
@@ -13,19 +14,6 @@ fn by_definition(sent: &[u8]) -> Vec<u16> {
         .filter(|&step| sent[step] != before(step))
         .map(|step| step as u16)
         .collect()
-}
-
-/// Every row of at most that many of these values.
-fn all_sent(values: &[u8], most: u32) -> Vec<Vec<u8>> {
-    let rows = |length: u32| {
-        let digit = move |number: usize, place| number / values.len().pow(place) % values.len();
-        (0..values.len().pow(length)).map(move |number| {
-            (0..length)
-                .map(|place| values[digit(number, place)])
-                .collect()
-        })
-    };
-    (0..=most).flat_map(rows).collect()
 }
 
 const FILL: u16 = 0xEEEE;
@@ -58,7 +46,7 @@ fn changes_by_hand() {
 /// made afresh, and no entry is written but the new ones.
 #[test]
 fn a_list_is_extended_to_the_list_made_afresh() {
-    for sent in all_sent(&[0x00, 0xA1, 0xC2], 6) {
+    for sent in every_row(&[0x00, 0xA1, 0xC2], 6) {
         let capture = capture(&sent);
         let whole = by_definition(&sent);
         assert_eq!(afresh(&capture), whole);
@@ -104,7 +92,7 @@ fn refusals_of_an_extension_in_their_order() {
 
 #[test]
 fn the_last_change_of_every_short_capture() {
-    for sent in all_sent(&[0x00, 0xA1, 0xC2], 6) {
+    for sent in every_row(&[0x00, 0xA1, 0xC2], 6) {
         let capture = capture(&sent);
         let list = by_definition(&sent);
         for step in 0..sent.len() as u16 {

@@ -3,9 +3,9 @@
 
 use super::faults::changed;
 use super::small::{resized, words};
-use super::{wrong, Caller, Extension, Lookup};
+use super::{wrong, Extension, Lookup};
 use crate::book::{MOST_BYTES, STEP_BYTES};
-use crate::compare::tally::Tally;
+use crate::compare::tally::{Caller, Tally};
 use crate::door::Door;
 use crate::draws::Bits;
 
@@ -20,26 +20,30 @@ const LONGEST: usize = MOST_BYTES / STEP_BYTES;
 const SPOILT: u32 = 20;
 
 pub fn extensions(library: &dyn Door, part: usize) -> Tally {
-    let mut caller = Caller::new(library, 15, part);
-    for number in 0..SHORT + LONG {
-        let capture = draw_any(&mut caller.bits, number);
-        let given = draw_extension(&mut caller.bits, capture);
+    let extend = |caller: &mut Caller, capture: &[u8]| {
+        let given = draw_extension(&mut caller.bits, capture.to_vec());
         caller.extend(&given);
-        if number < SHORT && caller.bits.once_in(SPOILT) {
-            extend_spoilt(&mut caller, &given.capture);
-        }
-    }
-    caller.tally
+    };
+    over_captures(Caller::new(library, 15, part), extend, extend_spoilt)
 }
 
 pub fn lookups(library: &dyn Door, part: usize) -> Tally {
-    let mut caller = Caller::new(library, 16, part);
+    let look_up = |caller: &mut Caller, capture: &[u8]| {
+        let given = draw_lookup(&mut caller.bits, capture.to_vec());
+        caller.look_up(&given);
+    };
+    over_captures(Caller::new(library, 16, part), look_up, look_up_spoilt)
+}
+
+type Calls = fn(&mut Caller, &[u8]);
+
+/// Each is put to a call, and some of them to calls with spoilt lists besides.
+fn over_captures(mut caller: Caller, call: Calls, call_spoilt: Calls) -> Tally {
     for number in 0..SHORT + LONG {
         let capture = draw_any(&mut caller.bits, number);
-        let given = draw_lookup(&mut caller.bits, capture);
-        caller.look_up(&given);
+        call(&mut caller, &capture);
         if number < SHORT && caller.bits.once_in(SPOILT) {
-            look_up_spoilt(&mut caller, &given.capture);
+            call_spoilt(&mut caller, &capture);
         }
     }
     caller.tally

@@ -51,19 +51,6 @@ fn present<const N: usize>(order: [u8; N], applies: [bool; N]) -> Vec<u8> {
         .collect()
 }
 
-/// The places of the pairs of faults that are there at once, among all pairs of the
-/// order.
-pub fn pairs<'a>(order: &'a [u8], faults: &'a [u8]) -> impl Iterator<Item = usize> + 'a {
-    let all = order.iter().enumerate().flat_map(move |(place, first)| {
-        let seconds = order[place + 1..].iter();
-        seconds.map(move |second| [first, second])
-    });
-    let is_there = move |pair: [&u8; 2]| pair.iter().all(|fault| faults.contains(fault));
-    all.enumerate()
-        .filter(move |&(_, pair)| is_there(pair))
-        .map(|(place, _)| place)
-}
-
 impl Extension {
     pub fn faults(&self) -> Vec<u8> {
         let length = self.capture.len();
@@ -131,17 +118,6 @@ impl Lookup {
 #[cfg(test)]
 mod tests {
     use super::*;
-
-    #[test]
-    fn pairs_are_counted_in_the_order_of_their_names() {
-        let all = EXTENSION_ORDER;
-        assert!(pairs(&all, &all).eq(0..10));
-        assert!(pairs(&all, &[8, 9]).eq([0]));
-        assert!(pairs(&all, &[16, 12]).eq([9]));
-        assert!(pairs(&all, &[9, 13, 12]).eq([4, 6, 8]));
-        assert!(pairs(&all, &[16]).eq([]));
-        assert!(pairs(&LOOKUP_ORDER, &[13, 16]).eq([5]));
-    }
 
     #[test]
     fn every_fault_is_there_whatever_the_others_are() {

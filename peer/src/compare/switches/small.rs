@@ -2,11 +2,12 @@
 //! listed, of entries and of room; and for the shortest every list there is.
 
 use super::faults::changed;
-use super::{wrong, Caller, Extension, Lookup};
+use super::{wrong, Extension, Lookup};
 use crate::book::STEP_BYTES;
-use crate::compare::tally::Tally;
+use crate::compare::tally::{Caller, Tally};
 use crate::door::Door;
 use crate::draws::Bits;
+use crate::rows::every_row;
 
 /// Captures are dealt out to the parts one by one.
 pub const PARTS: usize = 32;
@@ -114,7 +115,7 @@ fn look_up_all(caller: &mut Caller, capture: &[u8], lists: &[Vec<u16>]) {
 /// The captures of a part. What is not sent is drawn.
 pub fn dealt(values: &[u8], most_steps: u32, part: usize) -> Vec<Vec<u8>> {
     let mut bits = Bits::from_seeds(13, part);
-    let sent = rows_of(values, most_steps).into_iter();
+    let sent = every_row(values, most_steps).into_iter();
     sent.skip(part)
         .step_by(PARTS)
         .map(|sent| capture_of(&mut bits, &sent))
@@ -131,17 +132,7 @@ pub fn capture_of(bits: &mut Bits, sent: &[u8]) -> Vec<u8> {
 
 fn any_lists() -> Vec<Vec<u16>> {
     let entries: Vec<u16> = (0..=FEW_STEPS as u16).collect();
-    rows_of(&entries, FEW_ENTRIES)
-}
-
-/// Every row of at most so many of these values: the numbers of as many digits.
-fn rows_of<T: Copy>(values: &[T], most: u32) -> Vec<Vec<T>> {
-    let digit = |number: usize, place| values[number / values.len().pow(place) % values.len()];
-    let row = |number, length| (0..length).map(|place| digit(number, place)).collect();
-    (0..=most)
-        .flat_map(|length| (0..values.len().pow(length)).map(move |number| (number, length)))
-        .map(|(number, length)| row(number, length))
-        .collect()
+    every_row(&entries, FEW_ENTRIES)
 }
 
 pub fn words(steps: &[usize]) -> Vec<u16> {

@@ -4,9 +4,9 @@
 
 use super::drawn::draw_capture;
 use super::small::{self, resized};
-use super::{Caller, Extension};
+use super::Extension;
 use crate::book::STEP_BYTES;
-use crate::compare::tally::Tally;
+use crate::compare::tally::{Caller, Tally};
 use crate::door::Door;
 
 pub const PARTS: usize = small::PARTS;
@@ -82,7 +82,7 @@ fn extend(caller: &mut Caller, capture: &[u8], grown: &Grown) -> Grown {
         table,
     };
     let memory = caller.extend(&given).library.memory;
-    let left = memory.table.entries();
+    let left = memory.list.entries();
     let changes = usize::from(u16::from_be_bytes(memory.out.bytes)).min(left.len());
     let count = grown.list.len();
     let stays = left[..count] == given.table[..count] && left[changes..] == given.table[changes..];

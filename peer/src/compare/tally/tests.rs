@@ -1,6 +1,5 @@
 use super::*;
 use crate::compare::lent::{Lent, LentList, LentSlice};
-use crate::draws::Bits;
 use std::cell::Cell;
 
 #[derive(Clone, PartialEq)]

@@ -71,11 +71,7 @@ fn a_library_with_its_own_way_with_settings_is_noticed() {
 #[test]
 fn a_library_that_takes_a_cut_book_is_noticed() {
     let tally = part_of("read", &Fake { wrong: CUT_TAKEN });
-    let told = "refusal: library 0, peer 24";
-    assert!(tally
-        .told
-        .iter()
-        .any(|difference| difference.contains(told)));
+    assert!(tells(&tally, "refusal: library 0, peer 24"));
     assert!(tally.differences >= 20, "{}", tally.differences);
 }
 

@@ -224,12 +224,8 @@ fn lists_and_lookups_come_by_what_they_are_for() {
         names.contains(&subject.name)
     };
     for subject in SUBJECTS.iter().filter(named) {
-        let mut tally = Tally::default();
-        for part in 0..subject.parts {
-            tally.join((subject.compare)(&Peer, part));
-        }
         let mut text = Vec::new();
-        let (subjects, tallies) = (std::slice::from_ref(subject), [tally]);
+        let (subjects, tallies) = (std::slice::from_ref(subject), [all_of(subject)]);
         report::write(&mut text, subjects, &tallies).expect("memory takes every write");
         let text = String::from_utf8_lossy(&text);
         assert!(report::is_clean(subjects, &tallies), "{text}");
@@ -248,9 +244,5 @@ fn a_list_that_grows_is_held_against_the_list_made_afresh() {
     assert!(tally.differences > 0);
     assert!(tally.told[0].contains("out, library"));
     let tally = part_of("switches, in turn", &Fake { wrong: ONE_BEHIND });
-    let told = "other entries are written too";
-    assert!(tally
-        .told
-        .iter()
-        .any(|difference| difference.contains(told)));
+    assert!(tells(&tally, "other entries are written too"));
 }

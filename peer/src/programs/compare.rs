@@ -1,30 +1,9 @@
 //! One book, put to both programs.
 
-use super::process;
-use crate::judge::table::Table;
-use crate::judge::Verdict;
+use super::{process, Reading, Shown};
 use std::io;
 use std::path::Path;
 use std::process::Output;
-
-/// What may be answered, in the order of the columns of the report.
-#[derive(Clone, Copy, Debug, PartialEq, Eq)]
-pub enum Kind {
-    Explained,
-    Unexplained,
-    RefusedBook,
-}
-
-impl Kind {
-    pub const ALL: [Self; 3] = [Self::Explained, Self::Unexplained, Self::RefusedBook];
-
-    fn of(verdict: Verdict) -> Self {
-        match verdict {
-            Verdict::Explained(_) => Self::Explained,
-            Verdict::Unexplained(_) => Self::Unexplained,
-        }
-    }
-}
 
 /// Something in which the programs do not agree.
 #[derive(Debug, PartialEq, Eq)]
@@ -38,26 +17,22 @@ pub struct Difference {
 /// What became of one book.
 pub struct Compared {
     /// By this reading.
-    pub kinds: Vec<Kind>,
+    pub shown: Vec<Shown>,
     pub differences: Vec<Difference>,
 }
 
-pub fn compare(program: &Path, book: &[u8]) -> io::Result<Compared> {
-    let table = Table::of(book);
-    let kinds = match &table {
-        Table::Judged(lines) => lines.iter().map(|line| Kind::of(line.verdict)).collect(),
-        Table::Refused(_) => vec![Kind::RefusedBook],
-    };
+pub fn compare(program: &Path, read: fn(&[u8]) -> Reading, book: &[u8]) -> io::Result<Compared> {
+    let Reading { text, shown } = read(book);
     let output = process::run(program, book)?;
     Ok(Compared {
-        kinds,
-        differences: differences(&table.to_string(), &output),
+        shown,
+        differences: differences(&text, &output),
     })
 }
 
 /// The table is all that is printed. The paper is silent on the exit status: here
 /// to print a table is a success, whatever the table says.
-pub fn differences(ours: &str, theirs: &Output) -> Vec<Difference> {
+fn differences(ours: &str, theirs: &Output) -> Vec<Difference> {
     let mut found = line_differences(ours.as_bytes(), &theirs.stdout);
     if !theirs.status.success() {
         found.push(Difference {
@@ -102,8 +77,10 @@ fn shown(line: Option<&&[u8]>) -> String {
 
 #[cfg(all(test, unix))]
 mod tests {
+    use super::super::Kind;
     use super::*;
     use crate::trials::PAPER_BOOK;
+    use crate::{books, lists};
     use std::os::unix::process::ExitStatusExt;
     use std::process::ExitStatus;
 
@@ -159,12 +136,23 @@ mod tests {
         assert_eq!(differences(TABLE, &output(9, TABLE, "late")).len(), 2);
     }
 
+    fn with_nothing(read: fn(&[u8]) -> Reading, book: &[u8]) -> (Vec<(Kind, usize)>, usize) {
+        let compared = compare(Path::new("/bin/true"), read, book).unwrap();
+        let shown = compared.shown.iter().map(|shown| (shown.kind, shown.lines));
+        (shown.collect(), compared.differences.len())
+    }
+
+    /// There are the header, the lines and the end to miss.
     #[test]
     fn a_program_that_answers_nothing_differs() {
-        let compared = compare(Path::new("/bin/true"), &PAPER_BOOK).unwrap();
-        assert_eq!(compared.kinds, [Kind::Explained, Kind::Unexplained]);
-        assert_eq!(compared.differences.len(), 4);
-        let compared = compare(Path::new("/bin/true"), &[]).unwrap();
-        assert_eq!(compared.kinds, [Kind::RefusedBook]);
+        let judged = vec![(Kind::Explained, 1), (Kind::Unexplained, 1)];
+        let listed = vec![(Kind::Changed, 2), (Kind::Changed, 1)];
+        let refused = vec![(Kind::RefusedBook, 0)];
+        let [judge, list] = [books::COMPARISON, lists::COMPARISON].map(|with| with.read);
+        assert_eq!(with_nothing(judge, &PAPER_BOOK), (judged, 4));
+        assert_eq!(with_nothing(list, &PAPER_BOOK), (listed, 5));
+        assert_eq!(with_nothing(judge, &[]), (refused.clone(), 2));
+        assert_eq!(with_nothing(list, &[]), (refused, 2));
+        assert!(compare(Path::new("no/such/program"), list, &[]).is_err());
     }
 }
