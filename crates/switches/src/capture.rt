@@ -24,7 +24,7 @@ pub(crate) fn steps_refusal(capture: &[u8], steps: usize) -> u8
 }
 
 // 00 behind the last step.
-pub(crate) fn sent_at(capture: &[u8], step: usize) -> u8
+fn sent_at(capture: &[u8], step: usize) -> u8
     requires { ⌜ length (now capture) % 4 ≡ 0 ⌝ }
     ensures { λ r. ⌜ r ≡ getD (sentIn (now (capture .entry))) step 0 ⌝ }
 {

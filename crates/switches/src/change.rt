@@ -58,7 +58,7 @@ fn put_change(table: &mut [u16], number: usize, step: u16, changed: bool) -> usi
     }
 }
 
-// Puts them behind the `known` entries, and answers how many entries there are then.
+// Puts the changes from a step on behind the `known` entries, and answers how many entries there are then.
 pub(crate) fn put_changes(capture: &[u8], from: usize, known: usize, table: &mut [u16]) -> usize
     requires { ⌜ Fits (now capture) from known (now table) ⌝ }
     ensures { λ r. ⌜ Put (now (capture .entry)) known r (now (table .entry)) (now (table .exit)) ⌝ }

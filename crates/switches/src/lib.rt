@@ -42,7 +42,8 @@ pub fn extend(capture: &[u8], listed: u16, count: u16, table: &mut [u16]) -> Ext
     }
 }
 
-// The steps that are listed are walked to check the list, and the others to list them: each step once.
+// The steps that are listed are walked to check the list, and the others to list them, so that each is looked at once; in a
+// table with fewer entries than there are steps left, the others are counted before.
 fn extend_whole(capture: &[u8], listed: usize, count: usize, table: &mut [u16]) -> Extending
     requires { ⌜ (firstOf (stepsFaults (now capture) listed) ≡ 0) × (count < 65536) ⌝ }
     ensures { λ r. ⌜ Answers extendingTold extendingCase (extending (now (capture .entry)) listed count (now (table .entry))) r ⌝ }
