@@ -1,7 +1,7 @@
 /*
  * Chainplater: the K1/K2 coder, the controller for linear 1:n multiplex section protection (ITU-T G.841), the judge
- * of captured lines, the list of their switches, and the reader and writer of capture books. The code behind these
- * functions is proved; see README.md for what the proofs say and what they rest on.
+ * of captured lines, the causes that explain them, the list of their switches, and the reader and writer of capture
+ * books. The code behind these functions is proved; see README.md for what the proofs say and what they rest on.
  *
  * Every function takes every value of its arguments and ends. All but chainplater_k1, which has nothing to refuse and
  * returns nothing, return 0 or the number of a refusal:
@@ -16,9 +16,10 @@
  *    8  the capture is not whole steps       27  a body ends past the book
  *    9  the capture has over 16,384 steps    28  bytes are left over
  *   10  no pair codes that record            29  the output has too little room
- *   12  the table has too few entries        30  the bodies are not as long as the contents say
- *   13  the step is not in the capture       31  the n of a capture is not 1 to 14
- *   16  the list is not the capture's        32  the mask of a capture has a bit at its n or above
+ *   11  a table has fewer words than steps   30  the bodies are not as long as the contents say
+ *   12  the table has too few entries        31  the n of a capture is not 1 to 14
+ *   13  the step is not in the capture       32  the mask of a capture has a bit at its n or above
+ *   16  the list is not the capture's
  *
  * Where several apply, one is returned: each function says below which refusals it has and in which order it asks for
  * them.
@@ -26,8 +27,8 @@
  * Memory. Every pointer points to as many bytes, or entries of a list, as its parameter says, also where that is 0: it is
  * then any pointer but NULL. Memory that a function writes to overlaps no other memory that it is lent. Memory that is
  * `const` is only read. Nothing is kept after the call, nothing is allocated, and no function has state: all may be called
- * from several threads at once. Numbers of more than one byte are big-endian; but a list is one of numbers, `uint16_t`,
- * in the machine's own order, at a place that suits them.
+ * from several threads at once. Numbers of more than one byte are big-endian; but a list or table is one of numbers,
+ * `uint16_t` or `uint32_t`, in the machine's own order, at a place that suits them.
  *
  * A record of a controller is 10 bytes: n (1), mask (2), W (2), accepted K1 (1), accepted K2 (1), K1 last sent (1),
  * steps of wait left (2).
@@ -109,6 +110,24 @@ uint8_t chainplater_step(const uint8_t record[CHAINPLATER_RECORD], uint8_t k1, u
  */
 uint8_t chainplater_judge(uint8_t n, uint16_t mask, uint16_t wait, const uint8_t *capture, size_t length,
                           uint8_t out[CHAINPLATER_VERDICT]);
+
+/*
+ * The judge, which also shows how an explained capture came about: for each step a word of section conditions and a word of
+ * command. A fresh controller of these settings that receives the bytes of the capture under these conditions and commands
+ * sends the bytes of the capture, step by step. A capture can have many such causes; these are some.
+ * A word of conditions has two bits a section (0 good, 1 degraded, 2 failed), section 0 lowest, and the bits above section n
+ * at 0. A word of command has the command (0 none, 1 clear, 2 lockout, 3 forced switch, 4 manual switch) in its upper byte
+ * and the channel in its lower.
+ * `conditions_room` and `commands_room` are the numbers of words that the two tables have, not of bytes.
+ * Refusals, in this order: 1, 2, 8, 9; 11 if either table has fewer words than the capture has steps. They come before the
+ * verdict: a capture that nothing explains is refused too if a table is short.
+ * conditions, commands: explained, a word for each step, from step 0, and what stands behind the last step's as it was; not
+ * explained or refused, all as it was.
+ * out: as for chainplater_judge.
+ */
+uint8_t chainplater_causes(uint8_t n, uint16_t mask, uint16_t wait, const uint8_t *capture, size_t length,
+                           uint32_t *conditions, size_t conditions_room, uint16_t *commands, size_t commands_room,
+                           uint8_t out[CHAINPLATER_VERDICT]);
 
 /*
  * The list of the switches. A change is a step, counted from 0, whose sent K1 differs from that of the step before it; the one

@@ -16,10 +16,17 @@ pub const CHANGE: usize = 3;
 pub const CONTENTS: usize = 769;
 pub const SIZE: usize = 4;
 
+/// What the causes of a capture are put into: a word of conditions and a word of command
+/// for each step.
+pub struct Tables<'a> {
+    pub conditions: &'a mut [u32],
+    pub commands: &'a mut [u16],
+}
+
 /// All of them fill what they are lent as the header says, and all but `k1`, which has
 /// nothing to refuse, answer the refusal, or 0. Where the header has K1 and K2 of a
-/// received pair, here is the pair; and where it has a list and how long that is, here
-/// is the list.
+/// received pair, here is the pair; where it has a list and how long that is, here is
+/// the list; and the two tables of causes go together.
 pub trait Door: Sync {
     fn fresh(&self, n: u8, mask: u16, wait: u16, record: &mut [u8; RECORD]) -> u8;
 
@@ -48,6 +55,16 @@ pub trait Door: Sync {
     ) -> u8;
 
     fn judge(&self, n: u8, mask: u16, wait: u16, capture: &[u8], out: &mut [u8; VERDICT]) -> u8;
+
+    fn causes(
+        &self,
+        n: u8,
+        mask: u16,
+        wait: u16,
+        capture: &[u8],
+        tables: Tables,
+        out: &mut [u8; VERDICT],
+    ) -> u8;
 
     fn switches(
         &self,

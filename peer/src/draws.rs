@@ -32,6 +32,35 @@ impl Draws {
     }
 }
 
+/// A number of a list or a table.
+pub trait Word: Copy + PartialEq {
+    /// As many of the lower bits as it has.
+    fn of_bits(bits: u64) -> Self;
+
+    /// The upper byte first, as one reads numbers.
+    fn bytes(self) -> Vec<u8>;
+}
+
+impl Word for u16 {
+    fn of_bits(bits: u64) -> Self {
+        bits as Self
+    }
+
+    fn bytes(self) -> Vec<u8> {
+        self.to_be_bytes().into()
+    }
+}
+
+impl Word for u32 {
+    fn of_bits(bits: u64) -> Self {
+        bits as Self
+    }
+
+    fn bytes(self) -> Vec<u8> {
+        self.to_be_bytes().into()
+    }
+}
+
 /// The same for many millions of calls: the generator SplitMix64, which has no
 /// seed to avoid and a period of 2^64.
 pub struct Bits(u64);
@@ -95,8 +124,8 @@ impl Bits {
         bytes
     }
 
-    pub fn words(&mut self, length: usize) -> Vec<u16> {
-        (0..length).map(|_| self.draw() as u16).collect()
+    pub fn words<T: Word>(&mut self, length: usize) -> Vec<T> {
+        (0..length).map(|_| T::of_bits(self.draw())).collect()
     }
 
     /// The other generator, for what is made with it.

@@ -10,6 +10,7 @@ pub mod scan;
 pub mod table;
 
 use crate::book::{MOST_BYTES, STEP_BYTES};
+use crate::causes::Cause;
 use crate::controller::{self, Record};
 
 /// A captured step: the pair received, then the pair sent (paper: "The judge").
@@ -39,8 +40,9 @@ pub fn judge(n: u8, mask: u16, wait: u16, capture: &[u8]) -> Result<Verdict, u8>
     Ok(explain(start, rows, &causes(n)))
 }
 
-/// The order of the checks is the paper's: 1, 2, 8, 9.
-fn admit(n: u8, mask: u16, wait: u16, capture: &[u8]) -> Result<(Record, &[Row]), u8> {
+/// A fresh record and the steps of a capture, unless it is refused. The order of the
+/// checks is the paper's: 1, 2, 8, 9.
+pub fn admit(n: u8, mask: u16, wait: u16, capture: &[u8]) -> Result<(Record, &[Row]), u8> {
     let start = controller::fresh(n, mask, wait).map_err(controller::Refusal::number)?;
     Ok((start, rows_of(capture)?))
 }
@@ -74,7 +76,7 @@ fn reached_by(before: &[Record], row: Row, causes: &[Cause]) -> Vec<Record> {
     let outcomes = before.iter().flat_map(|&record| {
         causes
             .iter()
-            .filter_map(move |cause| cause.outcome(record, row))
+            .filter_map(move |cause| cause.outcome(record, row).ok())
     });
     let mut reached = Vec::new();
     for record in outcomes {
@@ -83,25 +85,6 @@ fn reached_by(before: &[Record], row: Row, causes: &[Cause]) -> Vec<Record> {
         }
     }
     reached
-}
-
-/// What the judge cannot see of a step. It holds one command, so a clear and a
-/// new one are never given together (paper: "Errors a good reader makes").
-struct Cause {
-    conditions: Vec<u8>,
-    command: u8,
-    channel: u8,
-}
-
-impl Cause {
-    /// The record that is left, if the step is not refused and sends precisely
-    /// what was captured.
-    fn outcome(&self, record: Record, row: Row) -> Option<Record> {
-        let [k1, k2, sent @ ..] = row;
-        let answer = controller::step(record, k1, k2, &self.conditions, self.command, self.channel);
-        let fits = answer.refusal == 0 && [answer.k1, answer.k2] == sent;
-        fits.then_some(answer.record)
-    }
 }
 
 fn causes(n: u8) -> Vec<Cause> {

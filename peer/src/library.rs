@@ -4,14 +4,15 @@
 //! What the header asks of a caller follows from the types of the wrappers. Every
 //! pointer comes from a reference, so none is null, not even of an empty slice; it
 //! points to as many bytes, or entries of a list, as its parameter says, because
-//! arrays have that length and slices go with theirs; and a list of `u16` is where such
-//! numbers may be. What is written to is lent by `&mut`, so it overlaps nothing else.
+//! arrays have that length and slices go with theirs; and a list of `u16` or `u32` is
+//! where such numbers may be. What is written to is lent by `&mut`, so it overlaps
+//! nothing else.
 //! The library keeps nothing after a call and has no state.
 
 #![allow(unsafe_code)]
 
 use crate::door::{
-    Door, CHANGE, CHANGES, CONTENTS, DECODED, ENCODED, K1, RECORD, SIZE, STEP, VERDICT,
+    Door, Tables, CHANGE, CHANGES, CONTENTS, DECODED, ENCODED, K1, RECORD, SIZE, STEP, VERDICT,
 };
 
 /// As in the header, with its `size_t` as `usize`.
@@ -49,6 +50,19 @@ mod declared {
             wait: u16,
             capture: *const u8,
             length: usize,
+            out: *mut u8,
+        ) -> u8;
+
+        pub fn chainplater_causes(
+            n: u8,
+            mask: u16,
+            wait: u16,
+            capture: *const u8,
+            length: usize,
+            conditions: *mut u32,
+            conditions_room: usize,
+            commands: *mut u16,
+            commands_room: usize,
             out: *mut u8,
         ) -> u8;
 
@@ -157,6 +171,39 @@ impl Door for Library {
         // SAFETY: `capture` has the `length` bytes that are read, `out` the 3 that
         // are written; they do not overlap.
         unsafe { declared::chainplater_judge(n, mask, wait, start, length, out.as_mut_ptr()) }
+    }
+
+    #[inline]
+    fn causes(
+        &self,
+        n: u8,
+        mask: u16,
+        wait: u16,
+        capture: &[u8],
+        tables: Tables,
+        out: &mut [u8; VERDICT],
+    ) -> u8 {
+        let Tables {
+            conditions,
+            commands,
+        } = tables;
+        // SAFETY: `capture` has the `length` bytes that are read, `conditions` and
+        // `commands` as many words as their rooms say, which are read and written, `out`
+        // the 3 bytes that are written; none of these three overlaps any other.
+        unsafe {
+            declared::chainplater_causes(
+                n,
+                mask,
+                wait,
+                capture.as_ptr(),
+                capture.len(),
+                conditions.as_mut_ptr(),
+                conditions.len(),
+                commands.as_mut_ptr(),
+                commands.len(),
+                out.as_mut_ptr(),
+            )
+        }
     }
 
     #[inline]

@@ -1,5 +1,5 @@
 //! A second reading of the scope paper (01), with what is in force of the change
-//! requests (02): c, d, e, f, j, and b, which changes nothing that is answered.
+//! requests (02): a, c, d, e, f, j, and b, which changes nothing that is answered.
 //!
 //! Everything here was written from the papers alone, and `door` and `library` from
 //! `include/chainplater.h` besides. None of it comes from the Rattle source, by
@@ -7,7 +7,7 @@
 //! with each other and prove nothing. Every landing that changes this package
 //! keeps it that way.
 //!
-//! Eleven points were not reached so: what `pair::rank` answers for a channel that
+//! Thirteen points were not reached so: what `pair::rank` answers for a channel that
 //! no group has, and `book::body` for an entry whose body is not all in the
 //! book; that 31 and 32 come right behind 25, in 02, f, and so before 26 of their
 //! entry; that a request was last sent, in 02 d, if the step before sent it, and no
@@ -15,20 +15,27 @@
 //! an alarm as without; the byte that tells of an alarm; that, in 02, j, a 0 stands
 //! for what a K1 value does not have; that, in 02, e, 16 also stands for a table that
 //! has fewer entries than are said to be listed; that it comes before 12; that a list
-//! is looked up in only if it is that of the whole capture; and what `switches` prints,
-//! names and all. The third and the fourth take 02 at its word, as the order of 16 and
-//! 12 does, and on the others the papers are silent. What is answered was settled for
-//! both programs, and their agreement on it is no evidence.
+//! is looked up in only if it is that of the whole capture; what `switches` prints,
+//! names and all; that, in 02, a, 11 comes before the verdict, and so for a capture
+//! without an explanation too; and what `causes` prints. The third and the fourth take
+//! 02 at its word, as the order of 16 and 12 does, and on the others the papers are
+//! silent. What is answered was settled for both programs, and their agreement on it is
+//! no evidence.
 //!
 //! Nor was the closed form of `judge::scan`, which requests can be sent in a step,
 //! with an alarm or without: it was handed over. What speaks for it is that it
-//! agrees with the judge by brute force, which was written from the papers alone.
+//! agrees with the judge by brute force, which was written from the papers alone. And
+//! so was the way of `causes::fill`, to keep what a step leaves open in the tables and
+//! to settle it from the last step back. What speaks for that is the controller, which
+//! sends the captures under the causes that are found.
 //!
 //! The programs are compared by what they print: `sequences` for the byte pair and
 //! the controller, `trials` for the capture book, `k1` for what is said of each K1
-//! value. For the judge and for the list of switches there are programs of their own
-//! on the other side, so `books` and `lists` run them on many books and compare what
-//! they print with what `judge` and `switches` print here.
+//! value. For the judge, the list of switches and the causes there are programs of their
+//! own on the other side, so `books`, `lists` and `causes` run them on many books. What
+//! the first two print is compared with what `judge` and `switches` print here. The
+//! causes need not be those that `explain` prints: they are read, and put to the
+//! controller.
 //!
 //! The proved library is linked, and called with the same arguments as this
 //! reading: `compare` looks for differences in what they answer and in all they
@@ -46,6 +53,7 @@ mod bench;
 mod block;
 mod book;
 mod books;
+mod causes;
 mod compare;
 mod controller;
 mod door;
@@ -74,8 +82,8 @@ use std::path::Path;
 use std::process::ExitCode;
 
 const USAGE: &str = "\
-usage: peer sequences | trials | k1 | judge | switches
-       peer books [PROGRAM] | lists [PROGRAM] | compare | bench";
+usage: peer sequences | trials | k1 | judge | explain | switches
+       peer books [PROGRAM] | lists [PROGRAM] | causes [PROGRAM] | compare | bench";
 
 const MISSING: &str = "\
 peer: built without target/staticlib/libchainplater.a, which is for x86-64 alone
@@ -93,6 +101,9 @@ fn main() -> ExitCode {
         [word] if word == "judge" => {
             finish(print(|out| judge::table::Table::print(io::stdin(), out)))
         }
+        [word] if word == "explain" => {
+            finish(print(|out| causes::table::Table::print(io::stdin(), out)))
+        }
         [word] if word == "switches" => {
             finish(print(|out| switches::table::Table::print(io::stdin(), out)))
         }
@@ -101,6 +112,9 @@ fn main() -> ExitCode {
         }
         [word, program @ ..] if word == "lists" && program.len() <= 1 => {
             compare_program(&lists::COMPARISON, program.first())
+        }
+        [word, program @ ..] if word == "causes" && program.len() <= 1 => {
+            compare_program(&causes::printed::COMPARISON, program.first())
         }
         [word] if word == "compare" => with_library(compare_library),
         [word] if word == "bench" => with_library(bench_library),

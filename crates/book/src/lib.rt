@@ -4,6 +4,7 @@ mod listing;
 mod reader;
 mod writer;
 
+use crate::format::MOST;
 use crate::format::body_size;
 use crate::format::entry_in;
 use crate::format::first_body;
@@ -19,6 +20,12 @@ ghost use Rattle.book.specs.Reader.{reading};
 ghost use Rattle.book.specs.Writer.{writingTold, writingCase, writing, output};
 ghost use lib.ListN.{length};
 ghost use mathlib.Core.Path.{_≡_};
+
+// One byte more than a book may have, so that a longer input reads as too long (refusal 20).
+pub const INPUT: usize = MOST + 1;
+
+// No capture of a book has more steps, of four bytes each.
+pub const STEPS: usize = MOST / 4;
 
 // One capture: its settings n, mask and W with a spare byte, the offset of its body and the number of its steps.
 pub struct Entry {

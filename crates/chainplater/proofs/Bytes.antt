@@ -3,12 +3,15 @@
 use mathlib.Core.Path.{_≡_, refl, sym, ap, _∙_}
 use mathlib.Core.Bool.{Bool, true, false, and-false}
 use mathlib.Core.List.{List, [], _∷_, _++_}
-use Prim.Native.Nat.{ℕ, _<_}
+use Prim.Native.Nat.{ℕ, _+_, _*_, _/_, _%_, _<_}
 use native.Mathlib.Omega.{arith}
-use lib.ListN.{length, getD, replicate}
+use lib.Dec.{eqb}
+use lib.ListN.{length, getD, drop, replicate}
 use lib.Seq.{take-all}
 use borrow.Author.Tests.{lt-ltb}
 use Rattle.basics.specs.Bytes.{fourBytes}
+use Rattle.basics.specs.Choice.{if_then_else_}
+use Rattle.basics.specs.First.{Check}
 use Rattle.basics.proofs.Fields.{fields-back, fields-again}
 use Rattle.basics.specs.Settings.{sectionsFit}
 use Rattle.pair.specs.Coder.{encoding}
@@ -17,14 +20,16 @@ use Rattle.controller.specs.Step.{moved, step}
 use Rattle.controller.specs.declared.Controller.{Controller}
 use Rattle.controller.specs.declared.Outcome.{Outcome}
 use Rattle.controller.proofs.Keeping.{step-refused}
-use Rattle.explain.specs.Verdict.{Judging}
-use Rattle.explain.proofs.Exact.{right-one}
+use Rattle.explain.specs.Verdict.{Judging, Answers}
+use Rattle.explain.specs.Causes.{fixedIn}
+use Rattle.explain.proofs.Exact.{answer-one}
+use Rattle.explain.proofs.Tables.{verdict-one, fixed-one}
 use Rattle.book.specs.Writer.{writeRefusal, Wrote, writing, output}
 use Rattle.book.specs.declared.Contents.{Contents}
 use Rattle.book.proofs.Books.{refused-writing}
 use Rattle.chainplater.specs.Coder.{flag, encodingBytes}
 use Rattle.chainplater.specs.Record.{layout, fields, named, recordIn, recordBytes, outcomeBytes}
-use Rattle.chainplater.specs.Verdict.{judgingBytes, Judged}
+use Rattle.chainplater.specs.Verdict.{judgingBytes, Told, Caused, fixedBy}
 
 pub record-size : (s : Controller) → length (recordBytes s) ≡ 10
 unfolding recordBytes
@@ -84,14 +89,35 @@ module _ (n code channel bridged : ℕ) where
   unfolding encodingBytes
   flag-refused remote fits above = rw (fits, lt-ltb 1 remote above)
 
--- two answers of the judge that its promise allows
-module _ {n mask w r s : ℕ} {capture out after : List ℕ} (p : Judged n mask w capture r out)
-    (q : Judged n mask w capture s after) where
-  same-answer : p .answer ≡ q .answer
-  same-answer = right-one n mask w capture (p .answer) (q .answer) (p .right) (q .right)
+-- two answers of the judge that its promise allows, where what they hold makes them one
+module _ {Holds Holds2 : Judging → Type 0} {r r2 : ℕ} {out out2 : List ℕ} (p : Told Holds r out) (q : Told Holds2 r2 out2)
+    (one : p .answer ≡ q .answer) where
+  pub same-refusal : r ≡ r2
+  same-refusal = p .number ∙ ap (λ (j : Judging). j .refusal) one ∙ sym (q .number)
 
-  pub same-refusal : r ≡ s
-  same-refusal = p .number ∙ ap (λ (j : Judging). j .refusal) same-answer ∙ sym (q .number)
+  pub same-bytes : out ≡ out2
+  same-bytes = p .bytes ∙ ap judgingBytes one ∙ sym (q .bytes)
 
-  pub same-bytes : out ≡ after
-  same-bytes = p .bytes ∙ ap judgingBytes same-answer ∙ sym (q .bytes)
+pub judged-one : (faults : List Check) (n mask w : ℕ) (capture : List ℕ) {r r2 : ℕ} {out out2 : List ℕ}
+    (p : Told (Answers faults n mask w capture) r out) (q : Told (Answers faults n mask w capture) r2 out2)
+    → p .answer ≡ q .answer
+judged-one faults n mask w capture p q = answer-one n mask w faults capture (p .answer) (q .answer) (p .right) (q .right)
+
+-- with causes: the entries of the tables that are never chosen are those by the bytes
+fixed-by : {Holds : Judging → Type 0} {r : ℕ} {out : List ℕ} (p : Told Holds r out) (table : List ℕ)
+    → fixedBy out table ≡ fixedIn (p .answer) table
+fixed-by p table =
+    let at : 256 * (p .answer .at / 256) + p .answer .at % 256 ≡ p .answer .at = omega arith in
+    ap (λ (bytes : List ℕ). fixedBy bytes table) (p .bytes)
+    ∙ ap (λ (k : ℕ). if eqb (p .answer .verdict) 1 then drop k table else table) at
+
+module _ {n mask w r r2 : ℕ} {capture old old2 new new2 out after after2 out2 : List ℕ}
+    (p : Caused n mask w capture old old2 r new new2 out) (q : Caused n mask w capture old old2 r2 after after2 out2) where
+  pub caused-one : p .answer ≡ q .answer
+  caused-one = verdict-one (p .right) (q .right)
+
+  pub same-conditions : fixedBy out new ≡ fixedBy out2 after
+  same-conditions = fixed-by p new ∙ fixed-one (p .right) (q .right) .0 ∙ sym (fixed-by q after)
+
+  pub same-commands : fixedBy out new2 ≡ fixedBy out2 after2
+  same-commands = fixed-by p new2 ∙ fixed-one (p .right) (q .right) .1 ∙ sym (fixed-by q after2)

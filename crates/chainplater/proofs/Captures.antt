@@ -1,5 +1,5 @@
--- The captures of a book that was read: from their settings a fresh record is made, the judge refuses none of them, and
--- neither is the list of their changes refused.
+-- The captures of a book that was read: from their settings a fresh record is made, the judge refuses none of them, with their
+-- causes or without, and neither is the list of their changes refused.
 use mathlib.Core.Path.{_≡_, ap}
 use mathlib.Core.Bool.{true, and-eq-true-iff}
 use mathlib.Core.List.{List}
@@ -14,7 +14,10 @@ use Rattle.basics.specs.Settings.{sectionsFit, maskFits}
 use Rattle.basics.proofs.Fitting.{fit-settings}
 use Rattle.basics.proofs.Table.{at-entry}
 use Rattle.controller.specs.Settings.{fresh, settingsFaults, making}
-use Rattle.explain.specs.Verdict.{Judging, judgeFaults, Right}
+use Rattle.explain.specs.Causes.{Causes}
+use Rattle.explain.specs.Verdict.{Judging, judgeFaults, Answers, Right}
+use Rattle.explain.proofs.Rows.{rows-long}
+use Rattle.explain.proofs.Tables.{judged}
 use Rattle.switches.specs.Extend.{extending}
 use Rattle.switches.proofs.Grown.{afresh-all}
 use Rattle.book.specs.Format.{settingsFit, bodyOf, noEntry}
@@ -60,10 +63,17 @@ module _ (book : List ℕ) (none : reading book .refusal ≡ 0) (i : ℕ) (h : i
       )
 
   pub capture-judged : (j : Judging) → Right (entry .n) (entry .mask) (entry .w) (bodyOf book entry) j → j .refusal ≡ 0
-  unfolding Right
+  unfolding Answers
   capture-judged j right =
       ⊎-elim (λ found. ap (λ (a : Judging). a .refusal) (found .0)) (λ found. ap (λ (a : Judging). a .refusal) (found .1))
       (rw judge-unrefused at right)
+
+  pub capture-caused : (old old2 new new2 : List ℕ) → 16384 ≤ length old → 16384 ≤ length old2 → (j : Judging)
+      → Causes (entry .n) (entry .mask) (entry .w) (bodyOf book entry) old old2 j new new2 → j .refusal ≡ 0
+  capture-caused old old2 new new2 room room2 j causes =
+      let long = rows-long (bodyOf book entry) in
+      let small = whole .1 in
+      capture-judged j (judged causes (omega arith) (omega arith))
 
   pub capture-listed : (table : List ℕ) → 16384 ≤ length table → extending (bodyOf book entry) 0 0 table .refusal ≡ 0
   capture-listed table = afresh-all (bodyOf book entry) table (whole .0) (whole .1)

@@ -14,6 +14,7 @@ use Rattle.controller.specs.Settings.{fresh, making}
 use Rattle.controller.specs.Step.{step}
 use Rattle.controller.specs.declared.Controller.{Controller}
 use Rattle.controller.specs.declared.Outcome.{Outcome}
+use Rattle.explain.specs.Causes.{Causes}
 use Rattle.explain.specs.Verdict.{Judging, Right}
 use Rattle.switches.specs.Extend.{extending}
 use Rattle.switches.specs.LastChange.{Looked}
@@ -25,10 +26,11 @@ use Rattle.book.proofs.Trips.{contents-back, read-places}
 use Rattle.chainplater.specs.Coder.{valueBytes, flag, decodedBytes, encodedBytes, encodingBytes}
 use Rattle.chainplater.specs.Record.{recordIn, recordBytes, outcomeBytes}
 use Rattle.chainplater.specs.Switches.{lookedBytes}
-use Rattle.chainplater.specs.Verdict.{judgingBytes}
+use Rattle.chainplater.specs.Verdict.{judgingBytes, fixedBy}
 use Rattle.chainplater.proofs.Bytes.{record-size, outcome-size, record-back, record-again, refused-bytes}
-use Rattle.chainplater.proofs.Bytes.{refused-write, flag-taken, flag-refused, same-refusal, same-bytes}
-use Rattle.chainplater.proofs.Captures.{capture-fresh, capture-judged, capture-listed}
+use Rattle.chainplater.proofs.Bytes.{refused-write, flag-taken, flag-refused, same-refusal, same-bytes, judged-one}
+use Rattle.chainplater.proofs.Bytes.{caused-one, same-conditions, same-commands}
+use Rattle.chainplater.proofs.Captures.{capture-fresh, capture-judged, capture-caused, capture-listed}
 use Rattle.chainplater.proofs.chainplater_fresh.Kinds as fresh-kinds
 use Rattle.chainplater.proofs.chainplater_fresh.Reads as fresh-fn
 use Rattle.chainplater.proofs.chainplater_fresh.Statement as fresh-statement
@@ -53,6 +55,10 @@ use Rattle.chainplater.proofs.chainplater_judge.Kinds as judge-kinds
 use Rattle.chainplater.proofs.chainplater_judge.Reads as judge-fn
 use Rattle.chainplater.proofs.chainplater_judge.Statement as judge-statement
 use Rattle.chainplater.proofs.chainplater_judge.Met as judge-met
+use Rattle.chainplater.proofs.chainplater_causes.Kinds as causes-kinds
+use Rattle.chainplater.proofs.chainplater_causes.Reads as causes-fn
+use Rattle.chainplater.proofs.chainplater_causes.Statement as causes-statement
+use Rattle.chainplater.proofs.chainplater_causes.Met as causes-met
 use Rattle.chainplater.proofs.chainplater_switches.Kinds as switches-kinds
 use Rattle.chainplater.proofs.chainplater_switches.Reads as switches-fn
 use Rattle.chainplater.proofs.chainplater_switches.Statement as switches-statement
@@ -89,6 +95,9 @@ step-right = step-met.met
 
 judge-right : {M : Type 1} → judge-statement.statement M
 judge-right = judge-met.met
+
+causes-right : {M : Type 1} → causes-statement.statement M
+causes-right = causes-met.met
 
 switches-right : {M : Type 1} → switches-statement.statement M
 switches-right = switches-met.met
@@ -132,10 +141,28 @@ stepped-unique : OneContent 3 step-kinds.ps step-kinds.r step-fn.Post (λ κs ex
 stepped-unique κs args x y s t p q = one-value (p .1) (q .1)
 
 judge-unique : OneAnswer 2 judge-kinds.ps judge-kinds.r judge-fn.Post
-judge-unique κs args x y s t p q = same-refusal p q
+judge-unique κs args x y s t p q = same-refusal p q (judged-one _ _ _ _ _ p q)
 
 judged-unique : OneContent 2 judge-kinds.ps judge-kinds.r judge-fn.Post (λ κs exit. now (exit .1 .1 .1 .1 .0))
-judged-unique κs args x y s t p q = same-bytes p q
+judged-unique κs args x y s t p q = same-bytes p q (judged-one _ _ _ _ _ p q)
+
+causes-unique : OneAnswer 4 causes-kinds.ps causes-kinds.r causes-fn.Post
+causes-unique κs args x y s t p q = same-refusal p q (caused-one p q)
+
+verdict-unique : OneContent 4 causes-kinds.ps causes-kinds.r causes-fn.Post (λ κs exit. now (exit .1 .1 .1 .1 .1 .1 .0))
+verdict-unique κs args x y s t p q = same-bytes p q (caused-one p q)
+
+-- Of the tables of causes this holds but for the entries below the steps of an explained capture, where any causes will do
+-- under which the controller sends its rows.
+conditions-unique :
+    OneContent 4 causes-kinds.ps causes-kinds.r causes-fn.Post
+    (λ κs exit. fixedBy (now (exit .1 .1 .1 .1 .1 .1 .0)) (now (exit .1 .1 .1 .1 .0)))
+conditions-unique κs args x y s t p q = same-conditions p q
+
+commands-unique :
+    OneContent 4 causes-kinds.ps causes-kinds.r causes-fn.Post
+    (λ κs exit. fixedBy (now (exit .1 .1 .1 .1 .1 .1 .0)) (now (exit .1 .1 .1 .1 .1 .0)))
+commands-unique κs args x y s t p q = same-commands p q
 
 switches-unique : OneAnswer 3 switches-kinds.ps switches-kinds.r switches-fn.Post
 switches-unique κs args x y s t p q = one-value (p .0) (q .0)
@@ -237,6 +264,14 @@ captures-judged : (book : List ℕ) → reading book .refusal ≡ 0
     let e = getD (counted (reading book .contents)) i noEntry in
     (j : Judging) → Right (e .n) (e .mask) (e .w) (bodyOf book e) j → j .refusal ≡ 0
 captures-judged = capture-judged
+
+-- Nor does it with tables of 16,384 words for the causes.
+captures-caused : (book : List ℕ) → reading book .refusal ≡ 0
+    → (i : ℕ) → i < length (counted (reading book .contents)) →
+    let e = getD (counted (reading book .contents)) i noEntry in
+    (old old2 new new2 : List ℕ) → 16384 ≤ length old → 16384 ≤ length old2 → (j : Judging)
+    → Causes (e .n) (e .mask) (e .w) (bodyOf book e) old old2 j new new2 → j .refusal ≡ 0
+captures-caused = capture-caused
 
 -- Nor is a list of its changes, made afresh in a table of 16,384 entries, refused.
 captures-listed : (book : List ℕ) → reading book .refusal ≡ 0

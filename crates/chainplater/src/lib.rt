@@ -22,9 +22,10 @@ ghost use Rattle.book.specs.Writer.{writing, output};
 ghost use Rattle.chainplater.specs.Coder.{valueBytes, flag, decodedBytes, encodedBytes, encodingBytes};
 ghost use Rattle.chainplater.specs.Record.{recordIn, recordBytes, outcomeBytes};
 ghost use Rattle.chainplater.specs.Switches.{lookedBytes};
-ghost use Rattle.chainplater.specs.Verdict.{Judged};
+ghost use Rattle.chainplater.specs.Verdict.{judgingBytes, Judged, Caused};
 ghost use Rattle.controller.specs.Settings.{making};
 ghost use Rattle.controller.specs.Step.{step};
+ghost use Rattle.explain.specs.Verdict.{told};
 ghost use Rattle.pair.specs.Coder.{decoding};
 ghost use Rattle.pair.specs.Request.{requests};
 ghost use Rattle.pair.specs.Table.{valueOf};
@@ -142,6 +143,26 @@ pub extern "C" fn chainplater_step(
     o.refusal
 }
 
+fn verdict_bytes(verdict: Verdict) -> [u8; 3]
+    ensures { λ r. ⌜ r ≡ judgingBytes (told verdict) ⌝ }
+{
+    match verdict {
+        Verdict::Explained(k) => [1, (k / 256) as u8, (k % 256) as u8],
+        Verdict::Unexplained(i) => [2, (i / 256) as u8, (i % 256) as u8],
+        Verdict::Refused(_) => [0, 0, 0],
+    }
+}
+
+fn refusal_of(verdict: Verdict) -> u8
+    ensures { λ r. ⌜ r ≡ told verdict .refusal ⌝ }
+{
+    match verdict {
+        Verdict::Explained(_) => 0,
+        Verdict::Unexplained(_) => 0,
+        Verdict::Refused(k) => k,
+    }
+}
+
 #[no_mangle]
 pub extern "C" fn chainplater_judge(
     n: u8,
@@ -152,20 +173,26 @@ pub extern "C" fn chainplater_judge(
 ) -> u8
     ensures { λ r. ⌜ Judged n mask wait (now (capture .entry)) r (now (out .exit)) ⌝ }
 {
-    match explain::judge(n, mask, wait, capture) {
-        Verdict::Explained(k) => {
-            *out = [1, (k / 256) as u8, (k % 256) as u8];
-            0
-        }
-        Verdict::Unexplained(i) => {
-            *out = [2, (i / 256) as u8, (i % 256) as u8];
-            0
-        }
-        Verdict::Refused(k) => {
-            *out = [0, 0, 0];
-            k
-        }
-    }
+    let verdict = explain::judge(n, mask, wait, capture);
+    *out = verdict_bytes(verdict);
+    refusal_of(verdict)
+}
+
+#[no_mangle]
+pub extern "C" fn chainplater_causes(
+    n: u8,
+    mask: u16,
+    wait: u16,
+    capture: &[u8],
+    conditions: &mut [u32],
+    commands: &mut [u16],
+    out: &mut [u8; 3],
+) -> u8
+    ensures { λ r. ⌜ Caused n mask wait (now (capture .entry)) (now (conditions .entry)) (now (commands .entry)) r (now (conditions .exit)) (now (commands .exit)) (now (out .exit)) ⌝ }
+{
+    let verdict = explain::judge_causes(n, mask, wait, capture, conditions, commands);
+    *out = verdict_bytes(verdict);
+    refusal_of(verdict)
 }
 
 #[no_mangle]

@@ -3,7 +3,7 @@ use request::Request;
 
 pub const LOCKOUT: u8 = 0b1111;
 
-pub(crate) const FORCED_SWITCH: u8 = 0b1110;
+pub const FORCED_SWITCH: u8 = 0b1110;
 
 pub const FAIL_HIGH: u8 = 0b1101;
 

@@ -61,6 +61,20 @@ module _ (s : Controller) (r : Row) (loud : alarm (s .n) (r .k1) (r .k2) ≡ tru
           ∙ alarm-step s (cause .command) (cause .channel) (r .k1) (r .k2) idleK1 idleK2 2 working loud refl
           ∙ ap (λ (xs : List ℕ). step s idleK1 idleK2 xs (cause .command) (cause .channel)) (sym whole)
 
+  -- so does the record that it leads to
+  pub failed-leads : (cause : Cause) → eqb (protection (cause .conditions)) 2 ≡ true → (u : Controller)
+      → Sends (stepped s cause (quieted r)) (quieted r) × (u ≡ stepped s cause (quieted r) .controller)
+      → Sends (stepped s cause r) r × (u ≡ stepped s cause r .controller)
+  failed-leads cause failed u (sends, is) =
+      let same = failed-alarm cause failed in (
+        record {
+          not-refused = rw same (sends .not-refused);
+          first = rw same (sends .first);
+          second = rw same (sends .second);
+        },
+        is ∙ ap (λ (o : Outcome). o .controller) (sym same),
+      )
+
   -- some cause leads to a record by the row; one with section 0 failed leads to it by the other
   abbrev Leads : Controller → Type 0
   Leads u = (c : Cause) × Sends (stepped s c r) r × (u ≡ stepped s c r .controller)
@@ -89,13 +103,4 @@ module _ (s : Controller) (r : Row) (loud : alarm (s .n) (r .k1) (r .k2) ≡ tru
           )
 
       backward : LeadsFailed u → Leads u
-      backward (c, failed, sends, is) =
-          let same = failed-alarm c failed in (
-            c,
-            record {
-              not-refused = rw same (sends .not-refused);
-              first = rw same (sends .first);
-              second = rw same (sends .second);
-            },
-            is ∙ ap (λ (o : Outcome). o .controller) (sym same),
-          )
+      backward (c, failed, sends, is) = let led = failed-leads c failed u (sends, is) in (c, led .0, led .1)

@@ -1,11 +1,11 @@
 -- Commands: their numbers, codes and ranks, and the closed form for them taken apart and put together.
-use mathlib.Core.Path.{_≡_, refl, sym, ap, _∙_}
+use mathlib.Core.Path.{_≡_, refl, sym, ap, subst, _∙_}
 use mathlib.Core.Bool.{Bool, true, false, not, _&&_, _||_, and-eq-true-iff, false≢true}
 use mathlib.Core.Logic.{_⊎_, inl, inr, ⊎-elim}
 use Prim.Native.Nat.{ℕ, _≤_}
 use lib.Dec.{leb, eqb, lit≤}
 use borrow.Author.Tests.{eqb-true, le-leb, eq-eqb, ne-eqb}
-use Rattle.pair.specs.Request.{requests, carries, channel-0, a-section, rankIn, rankOf}
+use Rattle.pair.specs.Request.{requests, carries, channel-0, a-section, rankIn, rankOf, nothingCode}
 use Rattle.pair.proofs.Rows.{heldIn, carried-within}
 use Rattle.request.specs.Order.{same}
 use Rattle.request.specs.declared.Request.{Request}
@@ -13,7 +13,8 @@ use Rattle.request.proofs.Order.{or-true, or-right}
 use Rattle.request.proofs.FirstCome.{same-one}
 use Rattle.controller.specs.Rules.{request, rankOfRequest, isCommand, held, isClear, given, replacesHeld}
 use Rattle.controller.specs.Refusals.{channelFits}
-use Rattle.explain.specs.Cause.{commanded}
+use Rattle.controller.proofs.Apart.{none-rank}
+use Rattle.explain.specs.Cause.{rankHeld, commanded, numberOf}
 use Rattle.explain.proofs.Ranking.{section-rank, on-section, on-protection}
 
 -- LO, FS and MS
@@ -26,9 +27,21 @@ command-cases code h =
     (λ ms. inr (inr (eqb-true code 0b1000 ms)))
     (or-true (eqb code 0b1111 || eqb code 0b1110) (eqb code 0b1000) h)
 
--- a request of the table that is a command: its number, and its rank
-pub record Command (n : ℕ) (x : Request) : Type 0 where
-  pub number : ℕ
+-- a command has another code than none
+pub command-code : (code : ℕ) → isCommand code ≡ true → eqb code nothingCode ≡ false
+command-code code h = ne-eqb code nothingCode (λ z. false≢true (rw z at h))
+
+-- the held command has the rank of what was last sent, and else none
+pub held-rank : (last : Request) → rankHeld (held last) (rankOfRequest last) ≡ rankOfRequest (held last)
+held-rank last = go (isCommand (last .code)) refl
+  where
+    go : (t : Bool) → isCommand (last .code) ≡ t
+        → rankHeld (held last) (rankOfRequest last) ≡ rankOfRequest (held last)
+    go true e = rw (e, command-code (last .code) e)
+    go false e = rw e (sym none-rank)
+
+-- a request of the table that is a command, of that number in the paper's list; and its rank
+pub record Command (n : ℕ) (x : Request) (number : ℕ) : Type 0 where
   pub known : number ≤ 4
   pub fits : channelFits n number (x .channel) ≡ true
   pub other : isClear number ≡ false
@@ -39,13 +52,12 @@ module _ (n : ℕ) (x : Request) (carried : carries requests n (x .code) (x .cha
   -- on a section, by the number and the code of the command
   on-some : (k code : ℕ) → x .code ≡ code → k ≤ 4 → leb k 2 ≡ false → isClear k ≡ false
       → given k (x .channel) ≡ request code (x .channel) → heldIn requests channel-0 code ≡ false
-      → 3 ≤ rankIn requests a-section code → Command n x
+      → 3 ≤ rankIn requests a-section code → Command n x k
   on-some k code e known above-2 other new never high =
       let here : carries requests n code (x .channel) ≡ true = rw e at carried in
       let some = on-section n code (x .channel) never here in
       let most = carried-within requests n code (x .channel) here in
       record {
-        number = k;
         known = known;
         fits = rw (above-2, le-leb 1 (x .channel) some, le-leb (x .channel) n most);
         other = other;
@@ -53,12 +65,11 @@ module _ (n : ℕ) (x : Request) (carried : carries requests n (x .code) (x .cha
         high = rw (e, section-rank code (x .channel) some) high;
       }
 
-  lock-out : x .code ≡ 0b1111 → Command n x
+  lock-out : x .code ≡ 0b1111 → Command n x 2
   unfolding rankOf rankIn heldIn
   lock-out e =
       let zero : x .channel ≡ 0 = on-protection n 0b1111 (x .channel) refl (rw e at carried) in
       record {
-        number = 2;
         known = lit≤ tt;
         fits = rw zero;
         other = refl;
@@ -66,14 +77,16 @@ module _ (n : ℕ) (x : Request) (carried : carries requests n (x .code) (x .cha
         high = rw (e, zero) (lit≤ tt);
       }
 
-  pub a-command : isCommand (x .code) ≡ true → Command n x
+  pub a-command : isCommand (x .code) ≡ true → Command n x (numberOf (x .code))
   unfolding rankIn heldIn
   a-command h = go (command-cases (x .code) h)
     where
-      go : (x .code ≡ 0b1111) ⊎ (x .code ≡ 0b1110) ⊎ (x .code ≡ 0b1000) → Command n x
-      go (inl lo) = lock-out lo
-      go (inr (inl fs)) = on-some 3 0b1110 fs (lit≤ tt) refl refl refl refl (lit≤ tt)
-      go (inr (inr ms)) = on-some 4 0b1000 ms (lit≤ tt) refl refl refl refl (lit≤ tt)
+      go : (x .code ≡ 0b1111) ⊎ (x .code ≡ 0b1110) ⊎ (x .code ≡ 0b1000) → Command n x (numberOf (x .code))
+      go (inl lo) = subst (Command n x) (sym (ap numberOf lo)) (lock-out lo)
+      go (inr (inl fs)) =
+          subst (Command n x) (sym (ap numberOf fs)) (on-some 3 0b1110 fs (lit≤ tt) refl refl refl refl (lit≤ tt))
+      go (inr (inr ms)) =
+          subst (Command n x) (sym (ap numberOf ms)) (on-some 4 0b1000 ms (lit≤ tt) refl refl refl refl (lit≤ tt))
 
 -- the closed form for commands, taken apart
 pub commanded-by : (hold x : Request) → commanded hold (held x) ≡ true
@@ -93,7 +106,7 @@ pub commanded-of : (hold x : Request) → isCommand (x .code) ≡ true → (x �
 commanded-of hold x e how = rw e (rw (some, which how))
   where
     some : eqb (x .code) 0b0000 ≡ false
-    some = ne-eqb (x .code) 0b0000 (λ z. false≢true (rw z at e))
+    some = command-code (x .code) e
 
     which : (x ≡ hold) ⊎ (replacesHeld hold x ≡ true) → same x hold || replacesHeld hold x ≡ true
     which (inl is) =

@@ -46,7 +46,7 @@ all-right ((bytes is j) ∷ rest) h =
     and-eq-true-iff (eqb (firstOf (sizeFaults (length bytes))) 0) (alike (scanned (fresh 2 0 3) bytes) j) .0 (both .0) in
     let none = eqb-true (firstOf (sizeFaults (length bytes))) 0 (parts .0) in (
       subst (Right 2 0 3 bytes) (alike-eq (scanned (fresh 2 0 3) bytes) j (parts .1))
-          (scanned-right 2 0 3 bytes refl refl none),
+          (scanned-right 2 0 3 bytes (sizeFaults (length bytes)) refl refl none),
       all-right rest (both .1),
     )
 

@@ -12,20 +12,20 @@ use lib.ListN.{length, take}
 use lib.Seq.{take-all, take-take}
 use borrow.Author.Tests.{ltb-true, ltb-false}
 use Rattle.basics.specs.Choice.{if_then_else_}
-use Rattle.basics.specs.First.{firstOf}
+use Rattle.basics.specs.First.{Check, firstOf}
 use Rattle.basics.specs.Settings.{sectionsFit, maskFits}
 use Rattle.controller.specs.Settings.{fresh}
 use Rattle.controller.specs.declared.Controller.{Controller}
 use Rattle.controller.proofs.Keeping.{fresh-acceptable}
 use Rattle.basics.specs.Capture.{Row, rowsOf}
 use Rattle.explain.specs.Explained.{Cause, stepped, Sends, Explains, Explained}
-use Rattle.explain.specs.Verdict.{Judging, explainedAt, unexplainedAt, told, judgeFaults, Found, Right}
+use Rattle.explain.specs.Verdict.{Judging, explainedAt, unexplainedAt, told, judgeFaults, Found, Answers, Right}
 use Rattle.explain.specs.Scan.{Scanned, all, first, scanFrom}
 use Rattle.explain.specs.Trace.{start, live, next, verdictOf}
 use Rattle.explain.specs.declared.Records.{Records}
 use Rattle.explain.specs.declared.Verdict.{Verdict}
 use Rattle.explain.specs.declared.Verdict.the-variants as verdict
-use Rattle.explain.proofs.Scanning.{Run, run-prefix, From, Says, scan-exact}
+use Rattle.explain.proofs.Scanning.{Run, run-prefix, From, good-next, Says, scan-exact}
 use Rattle.explain.proofs.Reached.{Able, able-next}
 use Rattle.explain.proofs.Possible.{In, live-in, next-in}
 
@@ -43,6 +43,11 @@ explains-run s (c ∷ causes) [] = (λ h. h, λ h. h)
 explains-run s (c ∷ causes) (r ∷ rows) =
     let rest = explains-run (after s c r) causes rows in
     (λ h. (h .0, rest .0 (h .1)), λ h. (h .0, rest .1 (h .1)))
+
+-- behind a row, as before it
+pub able-behind : (d : Records) (r : Row) → live d ≡ true → ((s : Controller) → In d s → Able s)
+    → (u : Controller) → In (next d r) u → Able u
+able-behind = good-next Does after In Able able-next next live live-in (λ d r u alive good. next-in d r good u alive)
 
 module _ (n mask w : ℕ) where
   -- what is explained is explained up to each step
@@ -120,12 +125,14 @@ module _ (n mask w : ℕ) where
   found-one rows j k (inr (i, e, before, none)) (inr (i′, f, before′, none′)) =
       e ∙ ap unexplainedAt (first-one rows i i′ before before′ none none′) ∙ sym f
 
-  pub right-one : (bytes : List ℕ) (j k : Judging) → Right n mask w bytes j → Right n mask w bytes k → j ≡ k
-  unfolding Right
-  right-one bytes j k = go (eqb (firstOf (judgeFaults n mask (length bytes))) 0) refl
+  -- one answer behind any refusals
+  pub answer-one : (faults : List Check) (bytes : List ℕ) (j k : Judging)
+      → Answers faults n mask w bytes j → Answers faults n mask w bytes k → j ≡ k
+  unfolding Answers
+  answer-one faults bytes j k = go (eqb (firstOf faults) 0) refl
     where
-      go : (t : Bool) → eqb (firstOf (judgeFaults n mask (length bytes))) 0 ≡ t
-          → Right n mask w bytes j → Right n mask w bytes k → j ≡ k
+      go : (t : Bool) → eqb (firstOf faults) 0 ≡ t
+          → Answers faults n mask w bytes j → Answers faults n mask w bytes k → j ≡ k
       go true e h h′ = found-one (rowsOf bytes) j k (rw e at h) (rw e at h′)
       go false e h h′ =
           let p = rw e at h in
@@ -138,7 +145,7 @@ module _ (n mask w : ℕ) (bytes : List ℕ) (j : Judging) (right : Right n mask
   rows = rowsOf bytes
 
   found : Found n mask w rows j
-  unfolding Right
+  unfolding Answers
   found = rw none at right
 
   pub explained-exact : (j ≡ explainedAt (length rows)) ↔ Explained n mask w rows

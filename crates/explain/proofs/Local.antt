@@ -1,7 +1,7 @@
--- A request of which the closed form holds is made the local request by some cause: a witness of at most one bad section and
+-- A request of which the closed form holds is made the local request by the cause that is shown: at most one bad section and
 -- one command. (That the closed form holds of every local request is in Source.)
 use mathlib.Core.Path.{_≡_, refl, sym, ap, subst, _∙_}
-use mathlib.Core.Bool.{Bool, true, false, _&&_, _||_, and-eq-true-iff}
+use mathlib.Core.Bool.{Bool, true, false, _&&_, _||_, and-eq-true-iff, false≢true, true≢false}
 use mathlib.Core.List.{List, _∷_}
 use mathlib.Core.Logic.{_⊎_, inl, inr, ⊎-elim}
 use Prim.Native.Nat.{ℕ, suc, _+_, _≤_, _<_, zero-le}
@@ -9,27 +9,30 @@ use native.Mathlib.Nat.{zero-add}
 use native.Mathlib.Omega.{arith}
 use lib.Dec.{ltb, leb, eqb, lit<, lit≤}
 use lib.ListN.{length, drop}
-use borrow.Author.Tests.{leb-true, eqb-true, lt-ltb, le-ltb, ne-eqb}
-use Rattle.pair.specs.Request.{requests, carries, rankIn, rankOf}
+use borrow.Author.Tests.{leb-true, leb-false, ltb-true, ltb-false, eqb-true, lt-ltb, le-ltb, eq-eqb, ne-eqb}
+use Rattle.basics.specs.Choice.{if_then_else_}
+use Rattle.pair.specs.Request.{requests, carries, reverseCode, nothingCode, rankIn, rankOf}
 use Rattle.pair.proofs.Rows.{heldIn, carried-within}
-use Rattle.request.specs.Order.{byTurn, OneOf}
+use Rattle.request.specs.Order.{same, byTurn, OneOf}
 use Rattle.request.specs.Wait.{waitNow}
 use Rattle.request.specs.declared.Request.{Request}
 use Rattle.request.proofs.Order.{or-true}
-use Rattle.request.proofs.FirstCome.{turn-orders}
+use Rattle.request.proofs.FirstCome.{same-one, turn-orders}
 use Rattle.controller.specs.Settings.{high}
-use Rattle.controller.specs.Rules.{noRequest, rankOfRequest}
+use Rattle.controller.specs.Rules.{noRequest, rankOfRequest, failCode, degradeCode}
 use Rattle.controller.specs.Rules.{isCommand, held, isClear, kept, given, replacesHeld, inForce, condition, conditionsFrom}
 use Rattle.controller.specs.Rules.{isFailOrDegrade, isWait, entersWait, waiting, candidates, localRequest}
 use Rattle.controller.specs.Refusals.{conditionsFit, channelFits}
 use Rattle.controller.specs.Step.{protection}
 use Rattle.controller.proofs.Apart.{none-rank}
 use Rattle.controller.proofs.Candidates.{candidate-split, candidate-one, local-one, local-top}
-use Rattle.explain.specs.Cause.{commanded, conditioned, waited, arises, unseen}
+use Rattle.explain.specs.Explained.{Cause}
+use Rattle.explain.specs.Cause.{commanded, conditioned, waited, arises, unseen, only, badFor, louder, deciding, numberOf}
+use Rattle.explain.specs.Cause.{commandFor, channelFor, isLouder, causeFor}
 use Rattle.explain.proofs.Ranking.{section-rank, on-section, on-protection, rank-cases}
 use Rattle.explain.proofs.Ranking.{fail-rank, degrade-rank}
-use Rattle.explain.proofs.Commands.{command-cases, a-command, commanded-by}
-use Rattle.explain.proofs.Single.{only, only-length, only-fit, only-whole, only-good, only-one, only-there}
+use Rattle.explain.proofs.Commands.{command-cases, command-code, Command, a-command, commanded-by}
+use Rattle.explain.proofs.Single.{only-length, only-fit, only-whole, only-good, only-one, only-there}
 
 -- what is handed to a step meets none of refusals 4 to 7
 pub record Fits (n : ℕ) (conditions : List ℕ) (command c : ℕ) : Type 0 where
@@ -37,6 +40,10 @@ pub record Fits (n : ℕ) (conditions : List ℕ) (command c : ℕ) : Type 0 whe
   pub conditions-fit : conditionsFit conditions ≡ true
   pub command-fits : command ≤ 4
   pub channel-fits : channelFits n command c ≡ true
+
+pub or-false : (a b : Bool) → a || b ≡ false → (a ≡ false) × (b ≡ false)
+or-false true b h = absurd (true≢false h)
+or-false false b h = (refl, h)
 
 module _ (mask w left : ℕ) (last : Request) where
   abbrev pub holdOf : ℕ → Request
@@ -61,14 +68,19 @@ module _ (mask w left : ℕ) (last : Request) where
   nearOf conditions command c =
       localRequest mask last (protection conditions) (drop 1 conditions) (standsOf command c) (waiting (nowOf command) last)
 
-  -- some cause makes x the local request, with section 0 failed or not
-  pub record Local (n : ℕ) (failed : Bool) (x : Request) : Type 0 where
-    pub conditions : List ℕ
-    pub command : ℕ
-    pub channel : ℕ
-    pub fits : Fits n conditions command channel
-    pub protects : eqb (protection conditions) 2 ≡ failed
-    pub near : nearOf conditions command channel ≡ x
+  -- this cause makes x the local request, with section 0 failed or not
+  pub record Makes (n : ℕ) (failed : Bool) (cause : Cause) (x : Request) : Type 0 where
+    pub fits : Fits n (cause .conditions) (cause .command) (cause .channel)
+    pub protects : eqb (protection (cause .conditions)) 2 ≡ failed
+    pub near : nearOf (cause .conditions) (cause .command) (cause .channel) ≡ x
+
+  -- some cause does
+  abbrev pub Local : ℕ → Bool → Request → Type 0
+  Local n failed x = (cause : Cause) × Makes n failed cause x
+
+  -- the cause that is shown
+  abbrev pub shown : ℕ → Request → Bool → Request → Cause
+  shown n far failed x = causeFor n mask (nowOf 0) last far failed x
 
   -- x stands above y, or is it
   abbrev Under : Request → Request → Type 0
@@ -168,32 +180,6 @@ module _ (mask w left : ℕ) (last : Request) where
   unfolding rankOf rankIn
   clear-stands = refl
 
-  pub no-local : (n : ℕ) → Local n false noRequest
-  no-local n =
-      record {
-        conditions = only (suc n) 0 0;
-        command = 1;
-        channel = 0;
-        fits = fits-only n 1 0 0 0 (lit≤ tt) (lit≤ tt) refl;
-        protects = refl;
-        near = near-none n 1 0 0 0 zero-le clear-stands refl refl;
-      }
-
-  section-local : (n c v : ℕ) → c ≤ n → v ≤ 2 → 0 < rankOfRequest (condition mask c v)
-      → Local n (eqb (protection (only (suc n) c v)) 2) (condition mask c v)
-  section-local n c v within small some =
-      let x = condition mask c v in
-      record {
-        conditions = only (suc n) c v;
-        command = 1;
-        channel = 0;
-        fits = fits-only n 1 0 c v small (lit≤ tt) refl;
-        protects = refl;
-        near =
-            near-top n 1 0 c v within x some (rw clear-stands (none-under x some)) (inl refl) (none-under x some)
-            (inr (inl refl));
-      }
-
   -- WTR stands below every command
   pub wait-below : (now : ℕ) → rankOfRequest (waiting now last) ≤ 2
   unfolding rankIn
@@ -203,53 +189,150 @@ module _ (mask w left : ℕ) (last : Request) where
       go true e = rw e (rank-cases (λ (k : ℕ). k ≤ 2) 0b0110 (last .channel) (lit≤ tt) (lit≤ tt))
       go false e = rw e (rw none-rank (lit≤ tt))
 
+  -- Without a new command: a clear where the held command or the wait would be as loud as this rank.
+  module _ (rank : ℕ) where
+    abbrev loud : Bool
+    loud = louder rank (rankOfRequest (held last)) (nowOf 0)
+
+    abbrev pub clearing : ℕ
+    clearing = if loud then 1 else 0
+
+    -- then neither is
+    abbrev Below : Request → Type 0
+    Below y = (y ≡ noRequest) ⊎ (rankOfRequest y < rank)
+
+    -- the held command goes on, if it has a rank
+    held-stands : (t : Bool) → ltb 0 (rankOfRequest (held last)) ≡ t → t && leb rank (rankOfRequest (held last)) ≡ false
+        → Below (standsOf 0 0)
+    held-stands true some quiet =
+        let has = ltb-true 0 (rankOfRequest (held last)) some in
+        let none : eqb (rankOfRequest (held last)) 0 ≡ false = ne-eqb (rankOfRequest (held last)) 0 (omega arith) in
+        let below : ltb (rankOfRequest (held last)) (rankOfRequest noRequest) ≡ false =
+        le-ltb (rankOfRequest (held last)) (rankOfRequest noRequest) (rw none-rank zero-le) in
+        let less = leb-false rank (rankOfRequest (held last)) quiet in
+        inr (rw (none, below) less)
+    held-stands false none quiet =
+        let zero : rankOfRequest (held last) ≡ 0 =
+        let most = ltb-false 0 (rankOfRequest (held last)) none in
+        omega arith in
+        inl (rw zero)
+
+    wait-stands : (t : Bool) → ltb 0 (nowOf 0) ≡ t → t && leb rank 2 ≡ false → Below (waiting (nowOf 0) last)
+    wait-stands true some quiet =
+        let low = wait-below (nowOf 0) in
+        let less = leb-false rank 2 quiet in
+        inr (omega arith)
+    wait-stands false none quiet = inl (rw none)
+
+    pub quiet-below : Below (standsOf clearing 0) × Below (waiting (nowOf clearing) last)
+    quiet-below = go loud refl
+      where
+        go : (t : Bool) → loud ≡ t → Below (standsOf clearing 0) × Below (waiting (nowOf clearing) last)
+        go true e = rw e (inl clear-stands, inl refl)
+        go false e =
+            let both =
+            or-false (ltb 0 (rankOfRequest (held last)) && leb rank (rankOfRequest (held last))) (ltb 0 (nowOf 0) && leb rank 2) e in
+            rw e
+            (held-stands (ltb 0 (rankOfRequest (held last))) refl (both .0), wait-stands (ltb 0 (nowOf 0)) refl (both .1))
+
+    clearing-known : clearing ≤ 4
+    clearing-known = go loud
+      where
+        go : (t : Bool) → (if t then 1 else 0) ≤ 4
+        go true = lit≤ tt
+        go false = zero-le
+
+    clearing-fits : (n : ℕ) → channelFits n clearing 0 ≡ true
+    clearing-fits n = go loud
+      where
+        go : (t : Bool) → channelFits n (if t then 1 else 0) 0 ≡ true
+        go true = refl
+        go false = refl
+
+    abbrev quietly : ℕ → ℕ → ℕ → Cause
+    quietly n c v = record { conditions = only (suc n) c v; command = clearing; channel = 0 }
+
+    quiet-makes : (n c v : ℕ) (x : Request) → v ≤ 2 → nearOf (only (suc n) c v) clearing 0 ≡ x
+        → Makes n (eqb (protection (only (suc n) c v)) 2) (quietly n c v) x
+    quiet-makes n c v x small near =
+        record {
+          fits = fits-only n clearing 0 c v small clearing-known (clearing-fits n);
+          protects = refl;
+          near = near;
+        }
+
   -- a command that goes on, or a new one that takes the place of the held one
-  record Given (n : ℕ) (x : Request) : Type 0 where
-    command : ℕ
-    channel : ℕ
+  record Gives (n command channel : ℕ) (x : Request) : Type 0 where
     known : command ≤ 4
     fits : channelFits n command channel ≡ true
     stands : standsOf command channel ≡ x
 
-  command-local : (n v : ℕ) (x : Request) → Given n x → 3 ≤ rankOfRequest x → v ≤ 2 → Under x (condition mask 0 v)
-      → Local n (eqb v 2) x
-  command-local n v x g high small section =
-      let low = wait-below (nowOf (g .command)) in
-      record {
-        conditions = only (suc n) 0 v;
-        command = g .command;
-        channel = g .channel;
-        fits = fits-only n (g .command) (g .channel) 0 v small (g .known) (g .fits);
-        protects = refl;
-        near =
-            near-top n (g .command) (g .channel) 0 v zero-le x (omega arith) (inl (g .stands)) section (inr (omega arith))
-            (inl (sym (g .stands)));
-      }
-
-  goes-on : (n : ℕ) (x : Request) → x ≡ held last → 0 < rankOfRequest x → Given n x
+  goes-on : (n : ℕ) (x : Request) → x ≡ held last → 0 < rankOfRequest x → Gives n 0 0 x
   goes-on n x e some =
       let rank : rankOfRequest (held last) ≡ rankOfRequest x = ap rankOfRequest (sym e) in
       let none : eqb (rankOfRequest (held last)) 0 ≡ false = ne-eqb (rankOfRequest (held last)) 0 (omega arith) in
       let below : ltb (rankOfRequest (held last)) (rankOfRequest noRequest) ≡ false =
       le-ltb (rankOfRequest (held last)) (rankOfRequest noRequest) (rw none-rank zero-le) in
-      record { command = 0; channel = 0; known = zero-le; fits = refl; stands = rw (none, below) (sym e) }
+      record { known = zero-le; fits = refl; stands = rw (none, below) (sym e) }
 
-  -- by its number and its channel
-  is-given : (n k c : ℕ) (x : Request) → k ≤ 4 → channelFits n k c ≡ true → isClear k ≡ false → given k c ≡ x
-      → replacesHeld (held last) x ≡ true → Given n x
-  is-given n k c x known fits other new takes =
-      record { command = k; channel = c; known = known; fits = fits; stands = rw (other, new, takes) }
+  -- a command that was held was last sent
+  held-same : (x : Request) → isCommand (x .code) ≡ true → x ≡ held last → same x last ≡ true
+  held-same x is e = go (isCommand (last .code)) refl
+    where
+      go : (t : Bool) → isCommand (last .code) ≡ t → same x last ≡ true
+      go true f =
+          let it : x ≡ last = rw f at e in
+          rw (
+            eq-eqb (x .code) (last .code) (ap (λ (r : Request). r .code) it),
+            eq-eqb (x .channel) (last .channel) (ap (λ (r : Request). r .channel) it),
+          )
+      go false f =
+          let it : x ≡ noRequest = rw f at e in
+          absurd (false≢true (ap (λ (r : Request). isCommand (r .code)) (sym it) ∙ is))
 
+  -- the command that is shown, where one is sent: none, if it was last sent; else it is given
   by-command : (n : ℕ) (x : Request) → carries requests n (x .code) (x .channel) ≡ true
-      → commanded (held last) (held x) ≡ true → Given n x × (3 ≤ rankOfRequest x)
-  by-command n x carried h =
-      let by = commanded-by (held last) x h in
-      let k = a-command n x carried (by .0) in
-      let high = k .high in (
-        ⊎-elim (λ e. goes-on n x e (omega arith))
-            (λ takes. is-given n (k .number) (x .channel) x (k .known) (k .fits) (k .other) (k .new) takes) (by .1),
-        high,
-      )
+      → commanded (held last) (held x) ≡ true → (t : Bool)
+      → Gives n (commandFor last x t) (channelFor last x) x × (3 ≤ rankOfRequest x)
+  by-command n x carried h t = (go (same x last) refl, high)
+    where
+      by : (isCommand (x .code) ≡ true) × ((x ≡ held last) ⊎ (replacesHeld (held last) x ≡ true))
+      by = commanded-by (held last) x h
+
+      k : Command n x (numberOf (x .code))
+      k = a-command n x carried (by .0)
+
+      high : 3 ≤ rankOfRequest x
+      high = k .high
+
+      some : eqb (x .code) nothingCode ≡ false
+      some = command-code (x .code) (by .0)
+
+      go : (u : Bool) → same x last ≡ u → Gives n (commandFor last x t) (channelFor last x) x
+      go true e =
+          let it : x ≡ last = same-one x last e in
+          let hold : x ≡ held last = subst (λ (y : Request). x ≡ held y) it (rw (by .0)) in
+          let sent = k .high in
+          rw (by .0) (rw (some, e) (goes-on n x hold (omega arith)))
+      go false e =
+          let takes : replacesHeld (held last) x ≡ true =
+          ⊎-elim (λ is. absurd (false≢true (sym e ∙ held-same x (by .0) is))) (λ is. is) (by .1) in
+          rw (by .0)
+          (rw (some, e) record { known = k .known; fits = k .fits; stands = rw (k .other, k .new, takes) })
+
+  command-makes : (n c v command channel : ℕ) (x : Request) → c ≤ n → Gives n command channel x → 3 ≤ rankOfRequest x
+      → v ≤ 2 → Under x (condition mask c v)
+      → Makes n (eqb (protection (only (suc n) c v)) 2)
+      record { conditions = only (suc n) c v; command = command; channel = channel } x
+  command-makes n c v command channel x within g high small section =
+      let low = wait-below (nowOf command) in
+      record {
+        fits = fits-only n command channel c v small (g .known) (g .fits);
+        protects = refl;
+        near =
+            near-top n command channel c v within x (omega arith) (inl (g .stands)) section (inr (omega arith))
+            (inl (sym (g .stands)));
+      }
 
   -- while wait remains no command is held
   held-none : 1 ≤ nowOf 0 → held last ≡ noRequest
@@ -267,79 +350,222 @@ module _ (mask w left : ℕ) (last : Request) where
       go true e = absurd (which (command-cases (last .code) e))
       go false e = rw e
 
-  wait-local : (n : ℕ) (x : Request) → carries requests n (x .code) (x .channel) ≡ true
-      → waited (nowOf 0) last x ≡ true → Local n false x
+  -- no condition asks for a request of another code
+  bad-none : (x : Request) → isFailOrDegrade (x .code) ≡ false → badFor mask x ≡ 0
+  bad-none x other =
+      let three = or-false (eqb (x .code) 0b1101 || eqb (x .code) 0b1100 || eqb (x .code) 0b1011) (eqb (x .code) 0b1010) other in
+      let two = or-false (eqb (x .code) 0b1101 || eqb (x .code) 0b1100) (eqb (x .code) 0b1011) (three .0) in
+      let one = or-false (eqb (x .code) 0b1101) (eqb (x .code) 0b1100) (two .0) in
+      go (three .1) (two .1) (one .1) (one .0) (high mask (x .channel))
+    where
+      go : eqb (x .code) 0b1010 ≡ false → eqb (x .code) 0b1011 ≡ false → eqb (x .code) 0b1100 ≡ false
+          → eqb (x .code) 0b1101 ≡ false → (isHigh : Bool)
+          → _≡_ {A = ℕ}
+          (if eqb (x .code) (degradeCode isHigh) then 1 else if eqb (x .code) (failCode isHigh) then 2 else 0) 0
+      go e f g h true = rw (f, h)
+      go e f g h false = rw (e, g)
+
+  -- the wait goes on by itself
+  wait-makes : (n : ℕ) (far x : Request) → carries requests n (x .code) (x .channel) ≡ true
+      → waited (nowOf 0) last x ≡ true → Makes n false (shown n far false x) x
   unfolding rankOf rankIn heldIn
-  wait-local n x carried h =
+  wait-makes n far x carried h =
       let remains = and-eq-true-iff (isWait (x .code) && eqb (x .channel) (last .channel)) (leb 1 (nowOf 0)) .0 h in
       let parts = and-eq-true-iff (isWait (x .code)) (eqb (x .channel) (last .channel)) .0 (remains .0) in
       let code : x .code ≡ 0b0110 = eqb-true (x .code) 0b0110 (parts .0) in
       let channel : x .channel ≡ last .channel = eqb-true (x .channel) (last .channel) (parts .1) in
       let some : 1 ≤ nowOf 0 = leb-true 1 (nowOf 0) (remains .1) in
       let on = on-section n 0b0110 (x .channel) refl (rw code at carried) in
+      let within = carried-within requests n (x .code) (x .channel) carried in
       let ranked : rankOfRequest x ≡ 2 = rw code (section-rank 0b0110 (x .channel) on) in
       let rank : 0 < rankOfRequest x = rw ranked (lit< tt) in
       let stands : standsOf 0 0 ≡ noRequest = rw (held-none some) in
       let runs : ltb 0 (nowOf 0) ≡ true = lt-ltb 0 (nowOf 0) some in
       let waits : x ≡ waiting (nowOf 0) last = rw runs (λ i. record { code = code i; channel = channel i }) in
+      let c = x .channel in
+      let good = only-good n c 0 (inl refl) in
+      let made : Makes n false record { conditions = only (suc n) c 0; command = 0; channel = 0 } x =
       record {
-        conditions = only (suc n) 0 0;
-        command = 0;
-        channel = 0;
-        fits = fits-only n 0 0 0 0 zero-le zero-le refl;
-        protects = refl;
+        fits = fits-only n 0 0 c 0 zero-le zero-le refl;
+        protects = good;
         near =
-            near-top n 0 0 0 0 zero-le x rank (rw stands (none-under x rank)) (none-under x rank) (inl (sym waits))
+            near-top n 0 0 c 0 within x rank (rw stands (none-under x rank)) (none-under x rank) (inl (sym waits))
             (inr (inr waits));
+      } in
+      let plain = bad-none x (ap isFailOrDegrade code) in
+      let other : isCommand (x .code) ≡ false = ap isCommand code in
+      let command : commandFor last x (isLouder (nowOf 0) last far x) ≡ 0 = rw (other, parts .0) in
+      let none : channelFor last x ≡ 0 = rw other in
+      subst (λ (k : Cause). Makes n false k x)
+      (λ i. record { conditions = only (suc n) c (sym plain i); command = sym command i; channel = sym none i }) made
+
+  -- the cause where neither a command nor WTR is sent
+  cause-quiet : (n : ℕ) (far : Request) (failed : Bool) (x : Request) → isCommand (x .code) ≡ false → isWait (x .code) ≡ false
+      → shown n far failed x
+      ≡ record {
+        conditions = if failed then only (suc n) 0 2 else only (suc n) (x .channel) (badFor mask x);
+        command = clearing (deciding (rankOfRequest far) x (rankOfRequest x));
+        channel = 0;
       }
+  cause-quiet n far failed x e f = rw (e, f)
+
+  none-makes : (n : ℕ) (far : Request) → Makes n false (shown n far false noRequest) noRequest
+  none-makes n far =
+      let rank = rankOfRequest noRequest in
+      let quiet = quiet-below rank in
+      let nothing : (y : Request) → Below rank y → y ≡ noRequest =
+      λ y below. ⊎-elim (λ e. e) (λ (less : rankOfRequest y < rank). absurd (no-less y less)) below in
+      quiet-makes rank n 0 0 noRequest zero-le
+      (near-none n (clearing rank) 0 0 0 zero-le (nothing (standsOf (clearing rank) 0) (quiet .0)) refl
+      (nothing (waiting (nowOf (clearing rank)) last) (quiet .1)))
+    where
+      no-less : (y : Request) → rankOfRequest y < rankOfRequest noRequest → ⊥
+      no-less y less = let none = none-rank in omega arith
+
+  -- the condition of a section
+  bad-makes : (n c v : ℕ) (x : Request) → condition mask c v ≡ x → c ≤ n → v ≤ 2 → 0 < rankOfRequest x
+      → Makes n (eqb (protection (only (suc n) c v)) 2) (quietly (rankOfRequest x) n c v) x
+  bad-makes n c v x is within small some =
+      let rank = rankOfRequest x in
+      let quiet = quiet-below rank in
+      let under : (y : Request) → Below rank y → Under x y =
+      λ y below. ⊎-elim (λ e. subst (Under x) (sym e) (none-under x some)) inr below in
+      quiet-makes rank n c v x small
+      (near-top n (clearing rank) 0 c v within x some (under (standsOf (clearing rank) 0) (quiet .0)) (inl is)
+      (under (waiting (nowOf (clearing rank)) last) (quiet .1)) (inr (inl (sym is))))
+
+  -- RR to what the far end asks for: what is local is below that
+  pub near-below : (n c : ℕ) (far : Request) → c ≤ n → 0 < rankOfRequest far →
+      let rank = rankOfRequest far in
+      rankOfRequest (nearOf (only (suc n) c 0) (clearing rank) 0) < rank
+  near-below n c far within some =
+      let rank = rankOfRequest far in
+      let quiet = quiet-below rank in
+      let near = nearOf (only (suc n) c 0) (clearing rank) 0 in
+      let stands = standsOf (clearing rank) 0 in
+      let wait = waiting (nowOf (clearing rank)) last in
+      let none : (y : Request) → y ≡ noRequest → rankOfRequest y < rank =
+      λ y e. subst (λ (z : Request). rankOfRequest z < rank) (sym e) (rw none-rank some) in
+      let less : (y : Request) → Below rank y → rankOfRequest y < rank = λ y below. ⊎-elim (none y) (λ h. h) below in
+      let one : (near ≡ stands) ⊎ ((near ≡ noRequest) ⊎ (near ≡ noRequest)) ⊎ (near ≡ wait) → rankOfRequest near < rank =
+      ⊎-elim (λ e. subst (λ (z : Request). rankOfRequest z < rank) (sym e) (less stands (quiet .0)))
+      (⊎-elim (⊎-elim (none near) (none near))
+      (λ e. subst (λ (z : Request). rankOfRequest z < rank) (sym e) (less wait (quiet .1)))) in
+      ⊎-elim (none near) (λ among. one (sources n (clearing rank) 0 c 0 within near among))
+      (local-one mask (protection (only (suc n) c 0)) (drop 1 (only (suc n) c 0)) stands wait last)
+
+  -- the cause where RR is sent
+  pub reverse-makes : (n : ℕ) (far x : Request) → x .code ≡ reverseCode →
+      let rank = rankOfRequest far in
+      Makes n false (shown n far false x) (nearOf (only (suc n) (x .channel) 0) (clearing rank) 0)
+  reverse-makes n far x code =
+      let c = x .channel in
+      let rank = rankOfRequest far in
+      let bad = bad-none x (ap isFailOrDegrade code) in
+      let decides : deciding rank x (rankOfRequest x) ≡ rank = rw code in
+      let cause : shown n far false x ≡ quietly rank n c 0 =
+      cause-quiet n far false x (ap isCommand code) (ap isWait code)
+      ∙ (λ i. record { conditions = only (suc n) c (bad i); command = clearing (decides i); channel = 0 }) in
+      let near = nearOf (only (suc n) c 0) (clearing rank) 0 in
+      subst (λ (t : Bool). Makes n t (shown n far false x) near) (only-good n c 0 (inl refl))
+      (subst (λ (k : Cause). Makes n (eqb (protection (only (suc n) c 0)) 2) k near) (sym cause)
+      (quiet-makes rank n c 0 near zero-le refl))
+
+  -- the code of a condition is none of these
+  record Asks (code : ℕ) : Type 0 where
+    command : isCommand code ≡ false
+    wait : isWait code ≡ false
+    reverse : eqb code reverseCode ≡ false
+
+  fail-asks : (isHigh : Bool) → Asks (failCode isHigh)
+  fail-asks true = record { command = refl; wait = refl; reverse = refl }
+  fail-asks false = record { command = refl; wait = refl; reverse = refl }
+
+  degrade-asks : (isHigh : Bool) → Asks (degradeCode isHigh)
+  degrade-asks true = record { command = refl; wait = refl; reverse = refl }
+  degrade-asks false = record { command = refl; wait = refl; reverse = refl }
 
   -- by the condition v of its own section
-  bad-local : (n : ℕ) (x : Request) → carries requests n (x .code) (x .channel) ≡ true → (v : ℕ) → v ≤ 2 →
-      let bad = condition mask (x .channel) v in
-      bad .channel ≡ x .channel → eqb (x .code) (bad .code) ≡ true → 0 < rankOfRequest bad
-      → (eqb v 2 ≡ false) ⊎ (1 ≤ x .channel) → Local n false x
-  bad-local n x carried v small channel e rank good =
+  section-makes : (n : ℕ) (far x : Request) → carries requests n (x .code) (x .channel) ≡ true → (v : ℕ)
+      → condition mask (x .channel) v ≡ x → Asks (x .code) → badFor mask x ≡ v → v ≤ 2 → 0 < rankOfRequest x
+      → (eqb v 2 ≡ false) ⊎ (1 ≤ x .channel) → Makes n false (shown n far false x) x
+  section-makes n far x carried v is asks bad small some good =
       let c = x .channel in
-      let bad = condition mask c v in
-      let code : x .code ≡ bad .code = eqb-true (x .code) (bad .code) e in
-      let is : bad ≡ x = λ i. record { code = sym code i; channel = channel i } in
       let within = carried-within requests n (x .code) c carried in
-      subst (λ (t : Bool). Local n t x) (only-good n c v good)
-      (subst (Local n (eqb (protection (only (suc n) c v)) 2)) is (section-local n c v within small rank))
+      let decides : deciding (rankOfRequest far) x (rankOfRequest x) ≡ rankOfRequest x = rw (asks .reverse) in
+      let cause : shown n far false x ≡ quietly (rankOfRequest x) n c v =
+      cause-quiet n far false x (asks .command) (asks .wait)
+      ∙ (λ i. record { conditions = only (suc n) c (bad i); command = clearing (decides i); channel = 0 }) in
+      subst (λ (t : Bool). Makes n t (shown n far false x) x) (only-good n c v good)
+      (subst (λ (k : Cause). Makes n (eqb (protection (only (suc n) c v)) 2) k x) (sym cause)
+      (bad-makes n c v x is within small some))
 
-  condition-local : (n : ℕ) (x : Request) → carries requests n (x .code) (x .channel) ≡ true
-      → conditioned mask x ≡ true → Local n false x
-  condition-local n x carried h =
-      let c = x .channel in
-      ⊎-elim (λ degraded. bad-local n x carried 1 (lit≤ tt) refl degraded (degrade-rank mask c) (inl refl))
-      (λ failed.
-      let both = and-eq-true-iff (leb 1 c) (eqb (x .code) (condition mask c 2 .code)) .0 failed in
-      let some = leb-true 1 c (both .0) in
-      bad-local n x carried 2 (lit≤ tt) refl (both .1) (fail-rank (high mask c) c some .0) (inr some))
-      (or-true (eqb (x .code) (condition mask c 1 .code)) (leb 1 c && eqb (x .code) (condition mask c 2 .code)) h)
+  condition-makes : (n : ℕ) (far x : Request) → carries requests n (x .code) (x .channel) ≡ true
+      → conditioned mask x ≡ true → Makes n false (shown n far false x) x
+  condition-makes n far x carried h = go (eqb (x .code) (degradeCode isHigh)) refl h
+    where
+      c : ℕ
+      c = x .channel
 
-  pub arises-local : (n : ℕ) (x : Request) → carries requests n (x .code) (x .channel) ≡ true
-      → arises mask (commanded (held last) (held x)) (nowOf 0) last x ≡ true → Local n false x
+      isHigh : Bool
+      isHigh = high mask (x .channel)
+
+      go : (t : Bool) → eqb (x .code) (degradeCode isHigh) ≡ t → t || leb 1 c && eqb (x .code) (failCode isHigh) ≡ true
+          → Makes n false (shown n far false x) x
+      go true e k =
+          let code : x .code ≡ degradeCode isHigh = eqb-true (x .code) (degradeCode isHigh) e in
+          let is : condition mask c 1 ≡ x = λ i. record { code = sym code i; channel = c } in
+          section-makes n far x carried 1 is (subst Asks (sym code) (degrade-asks isHigh)) (rw e) (lit≤ tt)
+          (rw (← is) (degrade-rank mask c)) (inl refl)
+      go false e k =
+          let both = and-eq-true-iff (leb 1 c) (eqb (x .code) (failCode isHigh)) .0 k in
+          let some = leb-true 1 c (both .0) in
+          let code : x .code ≡ failCode isHigh = eqb-true (x .code) (failCode isHigh) (both .1) in
+          let is : condition mask c 2 ≡ x = λ i. record { code = sym code i; channel = c } in
+          section-makes n far x carried 2 is (subst Asks (sym code) (fail-asks isHigh)) (rw (e, both .1)) (lit≤ tt)
+          (rw (← is) (fail-rank isHigh c some .0)) (inr some)
+
+  -- no condition asks for a command
+  command-good : (x : Request) → isCommand (x .code) ≡ true → badFor mask x ≡ 0
+  command-good x is = go (command-cases (x .code) is)
+    where
+      go : (x .code ≡ 0b1111) ⊎ (x .code ≡ 0b1110) ⊎ (x .code ≡ 0b1000) → badFor mask x ≡ 0
+      go (inl lo) = bad-none x (ap isFailOrDegrade lo)
+      go (inr (inl fs)) = bad-none x (ap isFailOrDegrade fs)
+      go (inr (inr ms)) = bad-none x (ap isFailOrDegrade ms)
+
+  -- what arises is made the local request by the cause that is shown
+  pub arises-makes : (n : ℕ) (far x : Request) → carries requests n (x .code) (x .channel) ≡ true
+      → arises mask (commanded (held last) (held x)) (nowOf 0) last x ≡ true → Makes n false (shown n far false x) x
   unfolding arises heldIn
-  arises-local n x carried h = go (eqb (x .code) 0b0000) (commanded (held last) (held x)) (conditioned mask x) refl refl refl h
+  arises-makes n far x carried h =
+      go (eqb (x .code) 0b0000) (commanded (held last) (held x)) (conditioned mask x) refl refl refl h
     where
       go : (none command section : Bool) → eqb (x .code) 0b0000 ≡ none → commanded (held last) (held x) ≡ command
-          → conditioned mask x ≡ section → none || command || section || waited (nowOf 0) last x ≡ true → Local n false x
+          → conditioned mask x ≡ section → none || command || section || waited (nowOf 0) last x ≡ true
+          → Makes n false (shown n far false x) x
       go true command section e f g k =
           let code : x .code ≡ 0b0000 = eqb-true (x .code) 0b0000 e in
           let channel : x .channel ≡ 0 = on-protection n 0b0000 (x .channel) refl (rw code at carried) in
-          subst (Local n false) (λ i. record { code = sym code i; channel = sym channel i }) (no-local n)
+          let is : noRequest ≡ x = λ i. record { code = sym code i; channel = sym channel i } in
+          subst (λ (y : Request). Makes n false (shown n far false y) y) is (none-makes n far)
       go false true section e f g k =
-          let by = by-command n x carried f in
+          let by = by-command n x carried f (isLouder (nowOf 0) last far x) in
           let high = by .1 in
-          command-local n 0 x (by .0) high zero-le (none-under x (omega arith))
-      go false false true e f g k = condition-local n x carried g
-      go false false false e f g k = wait-local n x carried k
+          let c = x .channel in
+          let within = carried-within requests n (x .code) c carried in
+          let made = command-makes n c 0 _ _ x within (by .0) high zero-le (none-under x (omega arith)) in
+          rw (command-good x (commanded-by (held last) x f .0))
+          (subst (λ (t : Bool). Makes n t record { conditions = only (suc n) c 0; command = commandFor last x (isLouder (nowOf 0) last far x); channel = channelFor last x } x)
+          (only-good n c 0 (inl refl)) made)
+      go false false true e f g k = condition-makes n far x carried g
+      go false false false e f g k = wait-makes n far x carried k
 
-  pub unseen-local : (n : ℕ) (x : Request) → carries requests n (x .code) (x .channel) ≡ true
-      → unseen (commanded (held last) (held x)) x ≡ true → Local n true x
+  -- and so is what section 0, failed, makes of it
+  pub unseen-makes : (n : ℕ) (far x : Request) → carries requests n (x .code) (x .channel) ≡ true
+      → unseen (commanded (held last) (held x)) x ≡ true → Makes n true (shown n far true x) x
   unfolding unseen rankOf rankIn
-  unseen-local n x carried h =
+  unseen-makes n far x carried h =
       let parts =
       and-eq-true-iff (eqb (x .channel) 0)
       (eqb (x .code) 0b1101 || eqb (x .code) 0b1111 && commanded (held last) (held x)) .0 h in
@@ -347,12 +573,13 @@ module _ (mask w left : ℕ) (last : Request) where
       ⊎-elim
       (λ sf.
       let code : x .code ≡ 0b1101 = eqb-true (x .code) 0b1101 sf in
-      subst (Local n true) (λ i. record { code = sym code i; channel = sym zero i })
-      (section-local n 0 2 zero-le (lit≤ tt) (lit< tt)))
+      let is : condition mask 0 2 ≡ x = λ i. record { code = sym code i; channel = sym zero i } in
+      subst (λ (y : Request). Makes n true (shown n far true y) y) is
+      (bad-makes n 0 2 (condition mask 0 2) refl zero-le (lit≤ tt) (lit< tt)))
       (λ lo.
       let both = and-eq-true-iff (eqb (x .code) 0b1111) (commanded (held last) (held x)) .0 lo in
       let code : x .code ≡ 0b1111 = eqb-true (x .code) 0b1111 (both .0) in
-      let by = by-command n x carried (both .1) in
+      let by = by-command n x carried (both .1) (isLouder (nowOf 0) last far x) in
       let top : rankOfRequest (condition mask 0 2) < rankOfRequest x = rw (code, zero) (lit< tt) in
-      command-local n 2 x (by .0) (by .1) (lit≤ tt) (inr top))
+      command-makes n 0 2 _ _ x zero-le (by .0) (by .1) (lit≤ tt) (inr top))
       (or-true (eqb (x .code) 0b1101) (eqb (x .code) 0b1111 && commanded (held last) (held x)) (parts .1))

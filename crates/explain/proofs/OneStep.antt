@@ -1,13 +1,13 @@
--- One step: the closed form holds of what is sent exactly if some cause makes the controller send it, with the command held
--- before the step and the one held after it set apart, for every n and mask.
+-- One step: the closed form holds of what is sent exactly if some cause makes the controller send it, and then the cause that
+-- is shown does; with the command held before the step and the one held after it set apart, for every n and mask.
 use mathlib.Core.Path.{_≡_, refl, sym, ap, subst, _∙_}
-use mathlib.Core.Bool.{Bool, true, false, not, _&&_, and-eq-true-iff}
-use mathlib.Core.List.{List}
-use mathlib.Core.Logic.{_↔_, ⊎-elim}
-use Prim.Native.Nat.{ℕ}
+use mathlib.Core.Bool.{Bool, true, false, not, _&&_, and-eq-true-iff, false≢true}
+use mathlib.Core.Logic.{_↔_, _⊎_, inl, ⊎-elim}
+use Prim.Native.Nat.{ℕ, suc}
 use lib.Dec.{eqb}
 use borrow.Author.Tests.{ltb-true, eqb-true, eq-eqb, not-true}
 use Rattle.pair.specs.Request.{requests, carries, rankOf}
+use Rattle.pair.proofs.Rows.{carried-within}
 use Rattle.request.specs.Order.{mayWin, byRank}
 use Rattle.request.specs.declared.Request.{Request}
 use Rattle.request.proofs.Order.{or-true, or-right, rank-orders}
@@ -15,22 +15,24 @@ use Rattle.controller.specs.Rules.{noRequest, rankOfRequest, held, decided}
 use Rattle.controller.specs.Step.{protection}
 use Rattle.controller.proofs.Apart.{none-rank}
 use Rattle.controller.proofs.Candidates.{none-loses}
-use Rattle.explain.specs.Cause.{commanded, arises, unseen, answers}
-use Rattle.explain.proofs.Local.{Fits, nowOf, nearOf, Local, no-local, arises-local, unseen-local}
+use Rattle.explain.specs.Explained.{Cause}
+use Rattle.explain.specs.Cause.{commanded, arises, unseen, answers, only}
+use Rattle.explain.proofs.Local.{Fits, nowOf, nearOf, Makes, Local, shown, clearing, near-below, reverse-makes, arises-makes, unseen-makes}
 use Rattle.explain.proofs.Source.{local-arises, local-unseen}
 
 module _ (n mask w left : ℕ) (last : Request) where
-  -- some conditions and some command, section 0 failed or not, with `far` accepted, make the controller send x; hold is the
-  -- command held before the step, and after the one held after it
-  pub record Caused (failed : Bool) (far hold after x : Request) : Type 0 where
-    pub conditions : List ℕ
-    pub command : ℕ
-    pub channel : ℕ
-    pub fits : Fits n conditions command channel
-    pub protects : eqb (protection conditions) 2 ≡ failed
+  -- this cause, with section 0 failed or not and `far` accepted, makes the controller send x; hold is the command held before
+  -- the step, and after the one held after it
+  pub record CausedBy (failed : Bool) (far hold after x : Request) (cause : Cause) : Type 0 where
+    pub fits : Fits n (cause .conditions) (cause .command) (cause .channel)
+    pub protects : eqb (protection (cause .conditions)) 2 ≡ failed
     pub before : hold ≡ held last
-    pub sends : decided far (nearOf mask w left last conditions command channel) ≡ x
+    pub sends : decided far (nearOf mask w left last (cause .conditions) (cause .command) (cause .channel)) ≡ x
     pub afterwards : after ≡ held x
+
+  -- some cause does
+  abbrev pub Caused : Bool → Request → Request → Request → Request → Type 0
+  Caused failed far hold after x = (cause : Cause) × CausedBy failed far hold after x cause
 
   -- section 0 not failed: RR to a better request of the far end, or a local request that it does not beat
   pub record Open (far hold after x : Request) : Type 0 where
@@ -44,34 +46,24 @@ module _ (n mask w left : ℕ) (last : Request) where
     pub possible : unseen (commanded hold after) x ≡ true
     pub afterwards : after ≡ held x
 
-  abbrev AnyLocal : Bool → Request → Type 0
-  AnyLocal failed x = Local mask w left last n failed x
+  -- the cause that is shown, for what the far end asks
+  abbrev pub shownBy : Request → Bool → Request → Cause
+  shownBy = shown mask w left last n
 
-  decided-by : (failed : Bool) (far x near : Request) → AnyLocal failed near → decided far near ≡ x
-      → Caused failed far (held last) (held x) x
-  decided-by failed far x near l e =
+  decided-by : {failed : Bool} {x near : Request} {cause : Cause} (far : Request) → Makes mask w left last n failed cause near
+      → decided far near ≡ x → CausedBy failed far (held last) (held x) x cause
+  decided-by far made e =
       record {
-        conditions = l .conditions;
-        command = l .command;
-        channel = l .channel;
-        fits = l .fits;
-        protects = l .protects;
+        fits = made .fits;
+        protects = made .protects;
         before = refl;
-        sends = ap (decided far) (l .near) ∙ e;
+        sends = ap (decided far) (made .near) ∙ e;
         afterwards = refl;
       }
 
-  local-in : (failed : Bool) (far hold after x : Request) (by : Caused failed far hold after x)
-      → AnyLocal failed (nearOf mask w left last (by .conditions) (by .command) (by .channel))
-  local-in failed far hold after x by =
-      record {
-        conditions = by .conditions;
-        command = by .command;
-        channel = by .channel;
-        fits = by .fits;
-        protects = by .protects;
-        near = refl;
-      }
+  local-in : {failed : Bool} {far hold after x : Request} (by : Caused failed far hold after x)
+      → Local mask w left last n failed (nearOf mask w left last (by .0 .conditions) (by .0 .command) (by .0 .channel))
+  local-in (cause, by) = (cause, record { fits = by .fits; protects = by .protects; near = refl })
 
   abbrev localOf : Request → Bool
   localOf x = arises mask (commanded (held last) (held x)) (nowOf mask w left last 0) last x
@@ -94,38 +86,71 @@ module _ (n mask w left : ℕ) (last : Request) where
           rw e (rw (may, eq-eqb (far .channel) (far .channel) refl))
       go false e = rw e (rw (local, e) (or-right (reversed far near) true refl))
 
-  open-caused : (far x : Request) → carries requests n (x .code) (x .channel) ≡ true
-      → answers far x (localOf x) ≡ true → Caused false far (held last) (held x) x
+  -- RR, under the cause that is shown
+  reverse-caused : (far x : Request) → carries requests n (x .code) (x .channel) ≡ true → x .code ≡ 0b0010
+      → far .channel ≡ x .channel → mayWin (rankOfRequest far) ≡ true
+      → CausedBy false far (held last) (held x) x (shownBy far false x)
+  reverse-caused far x carried code channel may =
+      let c = x .channel in
+      let some = ltb-true 0 (rankOfRequest far) may in
+      let within = carried-within requests n (x .code) c carried in
+      let better =
+      rank-orders rankOf .higher far (nearOf mask w left last (only (suc n) c 0) (clearing mask w left last (rankOfRequest far)) 0)
+      (near-below mask w left last n c far within some) in
+      let made = reverse-makes mask w left last n far x code in
+      decided-by far made (rw better (λ i. record { code = sym code i; channel = channel i }))
+
+  -- `shows` is what the cause is read from: what the far end asks, or anything, where that cannot win
+  open-caused : (far shows x : Request) → (far ≡ shows) ⊎ (mayWin (rankOfRequest far) ≡ false)
+      → carries requests n (x .code) (x .channel) ≡ true → answers far x (localOf x) ≡ true
+      → CausedBy false far (held last) (held x) x (shownBy shows false x)
   unfolding answers
-  open-caused far x carried h =
+  open-caused far shows x which carried h =
       ⊎-elim
       (λ reverses.
       let two = and-eq-true-iff (eqb (x .code) 0b0010 && mayWin (rankOfRequest far)) (eqb (far .channel) (x .channel)) .0 reverses in
       let one = and-eq-true-iff (eqb (x .code) 0b0010) (mayWin (rankOfRequest far)) .0 (two .0) in
       let code : x .code ≡ 0b0010 = eqb-true (x .code) 0b0010 (one .0) in
       let channel : far .channel ≡ x .channel = eqb-true (far .channel) (x .channel) (two .1) in
-      let better = rank-orders rankOf .higher far noRequest (rw none-rank (ltb-true 0 (rankOfRequest far) (one .1))) in
-      decided-by false far x noRequest (no-local mask w left last n)
-      (rw better (λ i. record { code = sym code i; channel = channel i })))
+      let same : far ≡ shows = ⊎-elim (λ e. e) (λ no. absurd (false≢true (sym no ∙ one .1))) which in
+      subst (λ (y : Request). CausedBy false far (held last) (held x) x (shownBy y false x)) same
+      (reverse-caused far x carried code channel (one .1)))
       (λ local.
       let both = and-eq-true-iff (localOf x) (not (byRank rankOf far x)) .0 local in
-      decided-by false far x x (arises-local mask w left last n x carried (both .0))
+      decided-by far (arises-makes mask w left last n shows x carried (both .0))
       (rw (not-true (byRank rankOf far x) (both .1))))
       (or-true (reversed far x) (localOf x && not (byRank rankOf far x)) h)
+
+  -- and under a failed section 0, when the far end asks for nothing
+  hidden-caused : (shows x : Request) → carries requests n (x .code) (x .channel) ≡ true
+      → unseen (commanded (held last) (held x)) x ≡ true
+      → CausedBy true noRequest (held last) (held x) x (shownBy shows true x)
+  hidden-caused shows x carried h = decided-by noRequest (unseen-makes mask w left last n shows x carried h) (none-loses x)
+
+  -- the closed form, so the cause that is shown
+  pub open-shown : (far shows hold after x : Request) → (far ≡ shows) ⊎ (mayWin (rankOfRequest far) ≡ false)
+      → carries requests n (x .code) (x .channel) ≡ true → Open far hold after x
+      → CausedBy false far hold after x (shownBy shows false x)
+  open-shown far shows hold after x which carried o =
+      rw (o .before, o .afterwards) (open-caused far shows x which carried (rw (o .before, o .afterwards) at (o .possible)))
+
+  pub hidden-shown : (shows hold after x : Request) → carries requests n (x .code) (x .channel) ≡ true
+      → Hidden hold after x → CausedBy true noRequest hold after x (shownBy shows true x)
+  hidden-shown shows hold after x carried o =
+      let possible : unseen (commanded (held last) (held x)) x ≡ true = rw (o .before, o .afterwards) at (o .possible) in
+      rw (o .before, o .afterwards) (hidden-caused shows x carried possible)
 
   pub one-step : (far hold after x : Request) → carries requests n (x .code) (x .channel) ≡ true
       → Open far hold after x ↔ Caused false far hold after x
   one-step far hold after x carried = (forward, backward)
     where
       forward : Open far hold after x → Caused false far hold after x
-      forward o =
-          let possible = rw (o .before, o .afterwards) at (o .possible) in
-          rw (o .before, o .afterwards) (open-caused far x carried possible)
+      forward o = (shownBy far false x, open-shown far far hold after x (inl refl) carried o)
 
       backward : Caused false far hold after x → Open far hold after x
-      backward by =
-          let near = nearOf mask w left last (by .conditions) (by .command) (by .channel) in
-          let local = local-arises mask w left last n near (local-in false far hold after x by) in
+      backward (cause, by) =
+          let near = nearOf mask w left last (cause .conditions) (cause .command) (cause .channel) in
+          let local = local-arises mask w left last n near (local-in (cause, by)) in
           let possible = subst (λ (y : Request). answers far y (localOf y) ≡ true) (by .sends) (answer-of far near local) in
           record {
             before = by .before;
@@ -138,16 +163,13 @@ module _ (n mask w left : ℕ) (last : Request) where
   one-hidden-step hold after x carried = (forward, backward)
     where
       forward : Hidden hold after x → Caused true noRequest hold after x
-      forward o =
-          let possible : unseen (commanded (held last) (held x)) x ≡ true = rw (o .before, o .afterwards) at (o .possible) in
-          rw (o .before, o .afterwards)
-          (decided-by true noRequest x x (unseen-local mask w left last n x carried possible) (none-loses x))
+      forward o = (shownBy noRequest true x, hidden-shown noRequest hold after x carried o)
 
       backward : Caused true noRequest hold after x → Hidden hold after x
-      backward by =
-          let near = nearOf mask w left last (by .conditions) (by .command) (by .channel) in
+      backward (cause, by) =
+          let near = nearOf mask w left last (cause .conditions) (cause .command) (cause .channel) in
           let is : near ≡ x = sym (none-loses near) ∙ by .sends in
-          let local = local-unseen mask w left last n near (local-in true noRequest hold after x by) in
+          let local = local-unseen mask w left last n near (local-in (cause, by)) in
           let possible = subst (λ (y : Request). unseen (commanded (held last) (held y)) y ≡ true) is local in
           record {
             before = by .before;

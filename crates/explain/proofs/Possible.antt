@@ -1,6 +1,6 @@
 -- The two flags hold the set of records that some causes can have reached, no more and no less.
-use mathlib.Core.Path.{_≡_, refl, sym, subst, _∙_}
-use mathlib.Core.Bool.{Bool, true, false, _&&_, _||_, and-eq-true-iff, false≢true}
+use mathlib.Core.Path.{_≡_, refl, sym, ap, subst, _∙_}
+use mathlib.Core.Bool.{Bool, true, false, not, _&&_, _||_, and-eq-true-iff, false≢true}
 use mathlib.Core.Logic.{_↔_, _⊎_, inl, inr, ⊎-elim}
 use Prim.Native.Nat.{ℕ}
 use Rattle.basics.specs.Choice.{if_then_else_}
@@ -8,22 +8,48 @@ use Rattle.pair.specs.Request.{requests, carries}
 use Rattle.pair.specs.Marks.{usable, alarm, alarmIn}
 use Rattle.pair.proofs.Coding.{alarm-test}
 use Rattle.pair.proofs.Rows.{and-true}
+use Rattle.request.specs.Order.{mayWin}
 use Rattle.request.specs.declared.Request.{Request}
 use Rattle.request.proofs.Order.{or-true, or-right}
 use Rattle.controller.specs.Settings.{idleK1, idleK2}
-use Rattle.controller.specs.Rules.{asked}
+use Rattle.controller.specs.Rules.{asked, rankOfRequest}
 use Rattle.controller.specs.Step.{waitOf}
 use Rattle.controller.specs.declared.Controller.{Controller}
+use Rattle.controller.proofs.Apart.{none-rank}
 use Rattle.basics.specs.Capture.{Row}
 use Rattle.explain.specs.Explained.{Cause, stepped, Sends}
+use Rattle.explain.specs.Cause.{causeFor}
 use Rattle.explain.specs.Trace.{idled, live, opens, localIn, hiddenIn, recordAfter, acceptedByte, next}
 use Rattle.explain.specs.declared.Records.{Records}
-use Rattle.explain.proofs.Alarmed.{quieted, alarm-exact}
-use Rattle.explain.proofs.Reached.{Able, Reached, far-accepted, failed-reached, sends-reached, failed-sends, reached-sends}
+use Rattle.explain.proofs.Alarmed.{quieted, failed-leads, alarm-exact}
+use Rattle.explain.proofs.Reached.{Able, far-accepted, far-asked, failed-reached, sends-reached, failed-sends, open-sends}
 
 -- the records that the flags leave open
 abbrev pub In : Records → Controller → Type 0
 In d s = ((d .heard ≡ true) × (s ≡ d .controller)) ⊎ ((d .idle ≡ true) × (s ≡ idled (d .controller)))
+
+-- the record of one of the flags: with 00 08 accepted, or not
+abbrev pub flag : Records → Bool → Bool
+flag d idle = if idle then d .idle else d .heard
+
+abbrev pub pick : Records → Bool → Controller
+pick d idle = if idle then idled (d .controller) else d .controller
+
+pick-in : (d : Records) (idle : Bool) → flag d idle ≡ true → In d (pick d idle)
+pick-in d true e = inr (e, refl)
+pick-in d false e = inl (e, refl)
+
+in-pick : (d : Records) (s : Controller) → In d s → (idle : Bool) × (flag d idle ≡ true) × (s ≡ pick d idle)
+in-pick d s (inl (e, is)) = (false, e, is)
+in-pick d s (inr (e, is)) = (true, e, is)
+
+-- one that is open, if any is
+pub any-flag : (d : Records) → live d ≡ true → flag d (not (d .heard)) ≡ true
+any-flag d alive = go (d .heard) refl
+  where
+    go : (t : Bool) → d .heard ≡ t → flag d (not (d .heard)) ≡ true
+    go true e = rw e refl
+    go false e = rw e (rw e at alive)
 
 pub live-in : (d : Records) → (live d ≡ true) ↔ ((s : Controller) × In d s)
 live-in d = (forward, backward)
@@ -36,6 +62,10 @@ live-in d = (forward, backward)
     backward : (s : Controller) × In d s → live d ≡ true
     backward (s, inl h) = rw (h .0)
     backward (s, inr h) = rw (h .0) (or-right (d .heard) true refl)
+
+or-none : (a : Bool) → a || false ≡ true → a ≡ true
+or-none true h = refl
+or-none false h = h
 
 module _ (d : Records) (r : Row) where
   abbrev base : Controller
@@ -93,6 +123,16 @@ module _ (d : Records) (r : Row) where
   unfolding next
   next-lost e = (rw e, rw e)
 
+  -- so what leaves something is sent by a controller
+  pub live-sendable : live (next d r) ≡ true → sendable ≡ true
+  live-sendable goes = go sendable refl
+    where
+      go : (t : Bool) → sendable ≡ t → sendable ≡ true
+      go true e = e
+      go false e =
+          let none = next-lost e in
+          absurd (false≢true (sym (λ i. none .0 i || none .1 i) ∙ goes))
+
   next-replaced : sendable ≡ true → alarmIn (r .k2) ≡ false → fits ≡ true → next d r ≡ replaced
   unfolding next
   next-replaced e q f = rw (e, q, f, and-true (opened (r .k1)))
@@ -105,30 +145,62 @@ module _ (d : Records) (r : Row) where
   unfolding next
   next-alarmed e q = rw (e, q)
 
+  -- the cause that is shown: for the pair that is accepted unless section 0 has failed
+  abbrev shows : Request
+  shows = asked (acceptedByte fits (r .k1) (base .k1))
+
+  abbrev pub causeShown : Bool → Cause
+  causeShown failed = causeFor (base .n) (base .mask) now (asked (base .sent)) shows failed x
+
+  abbrev pub failedBy : Bool → Bool
+  failedBy idle = idle && hidden
+
+  abbrev pub idleBy : Bool → Bool
+  idleBy idle = if idle && not hidden then true else not (d .heard)
+
   module _ (good : (s : Controller) → In d s → Able s) where
     abbrev From : Controller → Type 0
     From u = (s : Controller) × (c : Cause) × In d s × Sends (stepped s c r) r × (u ≡ stepped s c r .controller)
 
-    -- some record is left
-    from-some : live d ≡ true → {u : Controller} → ((k1 k2 : ℕ) → In d (holding k1 k2) → From u) → From u
-    from-some alive from =
-        ⊎-elim (λ e. from (base .k1) (base .k2) (inl (e, refl))) (λ e. from idleK1 idleK2 (inr (e, refl)))
-        (or-true (d .heard) (d .idle) alive)
+    -- Each record that is left open behind the row is left by one that was open before it, under the cause that is shown: where
+    -- section 0 may have failed, it had; where it had not, the record with 00 08 accepted stood so before; else any will do.
+    abbrev LedBy : Bool → Controller → Controller → Type 0
+    LedBy failed u s =
+        Sends (stepped s (causeShown failed) r) r × (u ≡ stepped s (causeShown failed) r .controller)
+
+    abbrev pub Led : Bool → Controller → Type 0
+    Led idle u = (flag d (idleBy idle) ≡ true) × LedBy (failedBy idle) u (pick d (idleBy idle))
+
+    -- from any record that is open, with the pair that it has accepted
+    abbrev FromEach : Bool → Controller → Type 0
+    FromEach failed u = (k1 k2 : ℕ) → In d (holding k1 k2) → LedBy failed u (holding k1 k2)
+
+    picked : (failed : Bool) (u : Controller) → FromEach failed u → (idle : Bool) → flag d idle ≡ true
+        → LedBy failed u (pick d idle)
+    picked failed u each true e = each idleK1 idleK2 (inr (e, refl))
+    picked failed u each false e = each (base .k1) (base .k2) (inl (e, refl))
+
+    from-any : live d ≡ true → (failed : Bool) (u : Controller) → FromEach failed u
+        → (flag d (not (d .heard)) ≡ true) × LedBy failed u (pick d (not (d .heard)))
+    from-any alive failed u each = let e = any-flag d alive in (e, picked failed u each (not (d .heard)) e)
+
+    hidden-led : live d ≡ true → hidden ≡ true → FromEach true (after idleK1 idleK2) → Led true (after idleK1 idleK2)
+    hidden-led alive h each = rw h (from-any alive true (after idleK1 idleK2) each)
 
     module _ (loud : alarmIn (r .k2) ≡ true) where
       rings : (n : ℕ) → alarm n (r .k1) (r .k2) ≡ true
       rings n = alarm-test n (r .k1) (r .k2) ∙ loud
 
-      into-alarmed : live d ≡ true → sendable ≡ true → (u : Controller) → In alarmed u → From u
-      into-alarmed alive e u (inl (h, k)) = absurd (false≢true h)
-      into-alarmed alive e u (inr (h, k)) = from-some alive by-failed
-        where
-          by-failed : (k1 k2 : ℕ) → In d (holding k1 k2) → From u
-          by-failed k1 k2 i =
-              let s = holding k1 k2 in
-              let led = failed-sends s (quieted r) (good s i) (alarm-test (s .n) idleK1 idleK2) e h in
-              let (c, sends, is) = alarm-exact s r (rings (s .n)) (after idleK1 idleK2) .1 led in
-              (s, c, i, sends, k ∙ is)
+      by-failed : sendable ≡ true → hidden ≡ true → FromEach true (after idleK1 idleK2)
+      by-failed can h k1 k2 i =
+          let s = holding k1 k2 in
+          failed-leads s r (rings (s .n)) (causeShown true) refl (after idleK1 idleK2)
+          (failed-sends s (quieted r) (good s i) (alarm-test (s .n) idleK1 idleK2) shows can h)
+
+      alarmed-led : live d ≡ true → sendable ≡ true → (idle : Bool) → flag alarmed idle ≡ true
+          → Led idle (pick alarmed idle)
+      alarmed-led alive can true h = hidden-led alive h (by-failed can h)
+      alarmed-led alive can false h = absurd (false≢true h)
 
       by-alarm : (k1 k2 : ℕ) (s : Controller) → In d s → s ≡ holding k1 k2 → (c : Cause) → Sends (stepped s c r) r
           → (u : Controller) → u ≡ stepped s c r .controller → (sendable ≡ true) × In alarmed u
@@ -149,38 +221,46 @@ module _ (d : Records) (r : Row) where
       still : (n : ℕ) → alarm n (r .k1) (r .k2) ≡ false
       still n = alarm-test n (r .k1) (r .k2) ∙ quiet
 
-      bring : (s : Controller) (i : In d s) (u : Controller) → Reached s r (good s i) (still (s .n)) u → From u
-      bring s i u h =
-          let (t, some) = reached-sends s r (good s i) (still (s .n)) u h in
-          (s, some .0, i, some .2, some .3)
-
       -- by a failed section 0, whatever was accepted before
-      by-hidden : (k1 k2 : ℕ) → In d (holding k1 k2) → sendable ≡ true → hidden ≡ true → (u : Controller)
-          → u ≡ after idleK1 idleK2 → From u
-      by-hidden k1 k2 i can h u k = bring (holding k1 k2) i u (can, inl (h, k))
+      by-hidden : sendable ≡ true → hidden ≡ true → FromEach true (after idleK1 idleK2)
+      by-hidden can h k1 k2 i = let s = holding k1 k2 in failed-sends s r (good s i) (still (s .n)) shows can h
 
-      -- by the pair that is then accepted, where k1 k2 was before
-      by-accepted : (k1 k2 : ℕ) → In d (holding k1 k2) → (t : Bool) → fits ≡ t → sendable ≡ true → (u : Controller)
-          → opened (acceptedByte t (r .k1) k1) ≡ true → u ≡ after (acceptedByte t (r .k1) k1) (acceptedByte t (r .k2) k2) → From u
-      by-accepted k1 k2 i t f can u h k =
+      -- by the pair that is then accepted, where k1 k2 was before: the one that is shown, or it asks for nothing
+      by-accepted : (k1 k2 : ℕ) → In d (holding k1 k2) → (t : Bool) → fits ≡ t → sendable ≡ true →
+          let k1′ = acceptedByte t (r .k1) k1 in
+          (asked k1′ ≡ shows) ⊎ (mayWin (rankOfRequest (asked k1′)) ≡ false) → opened k1′ ≡ true
+          → LedBy false (after k1′ (acceptedByte t (r .k2) k2)) (holding k1 k2)
+      by-accepted k1 k2 i t f can which h =
           let s = holding k1 k2 in
           let stood = far-accepted s r (good s i) (still (s .n)) t f in
-          bring s i u (can, inr (rw (stood .0, stood .1) (h, k)))
+          let asks = far-asked s r (good s i) (still (s .n)) false ∙ ap asked (stood .0) in
+          rw (← stood .0, ← stood .1)
+          (open-sends s r (good s i) (still (s .n)) shows
+          (subst (λ (y : Request). (y ≡ shows) ⊎ (mayWin (rankOfRequest y) ≡ false)) (sym asks) which) can (rw (← stood .0) at h))
 
-      into-replaced : live d ≡ true → sendable ≡ true → fits ≡ true → (u : Controller) → In replaced u → From u
-      into-replaced alive can f u (inl (h, k)) = from-some alive (λ k1 k2 i. by-accepted k1 k2 i true f can u h k)
-      into-replaced alive can f u (inr (h, k)) = from-some alive (λ k1 k2 i. by-hidden k1 k2 i can h u k)
+      replaced-led : live d ≡ true → sendable ≡ true → fits ≡ true → (idle : Bool) → flag replaced idle ≡ true
+          → Led idle (pick replaced idle)
+      replaced-led alive can f true h = hidden-led alive h (by-hidden can h)
+      replaced-led alive can f false h =
+          let same : asked (r .k1) ≡ shows = rw f in
+          from-any alive false (after (r .k1) (r .k2)) (λ k1 k2 i. by-accepted k1 k2 i true f can (inl same) h)
 
-      into-kept : live d ≡ true → sendable ≡ true → fits ≡ false → (u : Controller) → In kept u → From u
-      into-kept alive can f u (inl (h, k)) =
+      -- where it stood with 00 08 accepted, or had section 0 failed
+      stood-led : live d ≡ true → sendable ≡ true → fits ≡ false → (t : Bool) → hidden ≡ t
+          → opened idleK1 && d .idle || t ≡ true → Led true (after idleK1 idleK2)
+      stood-led alive can f true e h = hidden-led alive e (by-hidden can e)
+      stood-led alive can f false e h =
+          let both = and-eq-true-iff (opened idleK1) (d .idle) .0 (or-none (opened idleK1 && d .idle) h) in
+          rw e (both .1, by-accepted idleK1 idleK2 (inr (both .1, refl)) false f can (inr (ap mayWin none-rank)) (both .0))
+
+      kept-led : live d ≡ true → sendable ≡ true → fits ≡ false → (idle : Bool) → flag kept idle ≡ true
+          → Led idle (pick kept idle)
+      kept-led alive can f true h = stood-led alive can f hidden refl h
+      kept-led alive can f false h =
           let both = and-eq-true-iff (opened (base .k1)) (d .heard) .0 h in
-          by-accepted (base .k1) (base .k2) (inl (both .1, refl)) false f can u (both .0) k
-      into-kept alive can f u (inr (h, k)) =
-          ⊎-elim
-          (λ e.
-          let both = and-eq-true-iff (opened idleK1) (d .idle) .0 e in
-          by-accepted idleK1 idleK2 (inr (both .1, refl)) false f can u (both .0) k)
-          (λ e. from-some alive (λ k1 k2 i. by-hidden k1 k2 i can e u k)) (or-true (opened idleK1 && d .idle) hidden h)
+          let same : asked (base .k1) ≡ shows = rw f in
+          rw (both .1)
+          (refl, by-accepted (base .k1) (base .k2) (inl (both .1, refl)) false f can (inl same) (both .0))
 
       -- what a row that is sent leaves, by whether the received pair is usable
       abbrev behind : Bool → Records
@@ -221,17 +301,31 @@ module _ (d : Records) (r : Row) where
       out-of t f u (s, c, inr (e, is), sends, k) =
           read-off idleK1 idleK2 s (inr (e, is)) is c sends u k t f (idle-in t u e)
 
+    abbrev LedAt : Bool → Records → Type 0
+    LedAt idle m = flag m idle ≡ true → Led idle (pick m idle)
+
+    lost : (idle : Bool) → (next d r .heard ≡ false) × (next d r .idle ≡ false) → flag (next d r) idle ≡ true → ⊥
+    lost true none h = false≢true (sym (none .1) ∙ h)
+    lost false none h = false≢true (sym (none .0) ∙ h)
+
+    pub next-led : live d ≡ true → (idle : Bool) → flag (next d r) idle ≡ true → Led idle (pick (next d r) idle)
+    next-led alive idle = go sendable (alarmIn (r .k2)) fits refl refl refl
+      where
+        go : (a b t : Bool) → sendable ≡ a → alarmIn (r .k2) ≡ b → fits ≡ t → LedAt idle (next d r)
+        go true true t e q f = subst (LedAt idle) (sym (next-alarmed e q)) (alarmed-led q alive e idle)
+        go true false true e q f = subst (LedAt idle) (sym (next-replaced e q f)) (replaced-led q alive e f idle)
+        go true false false e q f = subst (LedAt idle) (sym (next-kept e q f)) (kept-led q alive e f idle)
+        go false b t e q f = λ h. absurd (lost idle (next-lost e) h)
+
     -- exactly the records that some cause leaves
     pub next-in : (u : Controller) → live d ≡ true → In (next d r) u ↔ From u
-    next-in u alive = (forward sendable (alarmIn (r .k2)) fits refl refl refl, backward (alarmIn (r .k2)) fits refl refl)
+    next-in u alive = (forward, backward (alarmIn (r .k2)) fits refl refl)
       where
-        forward : (a b t : Bool) → sendable ≡ a → alarmIn (r .k2) ≡ b → fits ≡ t → In (next d r) u → From u
-        forward true true t e q f i = into-alarmed q alive e u (subst (λ (m : Records). In m u) (next-alarmed e q) i)
-        forward true false true e q f i = into-replaced q alive e f u (subst (λ (m : Records). In m u) (next-replaced e q f) i)
-        forward true false false e q f i = into-kept q alive e f u (subst (λ (m : Records). In m u) (next-kept e q f) i)
-        forward false b t e q f i =
-            let none = next-lost e in
-            absurd (⊎-elim (λ h. false≢true (sym (none .0) ∙ h .0)) (λ h. false≢true (sym (none .1) ∙ h .0)) i)
+        forward : In (next d r) u → From u
+        forward i =
+            let (idle, e, is) = in-pick (next d r) u i in
+            let (was, led) = next-led alive idle e in
+            (pick d (idleBy idle), causeShown (failedBy idle), pick-in d (idleBy idle) was, led .0, is ∙ led .1)
 
         backward : (b t : Bool) → alarmIn (r .k2) ≡ b → fits ≡ t → From u → In (next d r) u
         backward true t q f from =

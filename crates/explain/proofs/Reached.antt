@@ -13,10 +13,11 @@ use Rattle.pair.specs.Request.{requests, carries}
 use Rattle.pair.specs.Marks.{codeOf, channelOf, usable, alarm, mark}
 use Rattle.pair.proofs.Coding.{usable-parts}
 use Rattle.request.specs.Bridge.{bridge}
+use Rattle.request.specs.Order.{mayWin}
 use Rattle.request.specs.declared.Request.{Request}
 use Rattle.request.proofs.Channels.{bridge-within}
 use Rattle.controller.specs.Settings.{idleK1, idleK2}
-use Rattle.controller.specs.Rules.{asked, accepted, accepting, held, isWait, decided, leftAfter, keepsBridge}
+use Rattle.controller.specs.Rules.{asked, rankOfRequest, accepted, accepting, held, isWait, decided, leftAfter, keepsBridge}
 use Rattle.controller.specs.Rules.{k1Of, k2Of}
 use Rattle.controller.specs.Refusals.{acceptable, refusal}
 use Rattle.controller.specs.Step.{protection, waitOf, moved}
@@ -31,7 +32,7 @@ use Rattle.explain.specs.Explained.{Cause, stepped, Sends}
 use Rattle.explain.specs.Cause.{commanded, unseen, answers}
 use Rattle.explain.specs.Trace.{secondFits, opens, localIn, hiddenIn, recordAfter, acceptedByte}
 use Rattle.explain.proofs.Local.{wait-unclear, nearOf}
-use Rattle.explain.proofs.OneStep.{Caused, one-step, one-hidden-step}
+use Rattle.explain.proofs.OneStep.{CausedBy, Caused, shownBy, open-shown, hidden-shown, one-step, one-hidden-step}
 
 -- what a run keeps of a record
 pub record Able (s : Controller) : Type 0 where
@@ -143,7 +144,7 @@ module _ (s : Controller) (r : Row) (able : Able s) (quiet : alarm (s .n) (r .k1
       → (farK1 false ≡ acceptedByte t (r .k1) (s .k1)) × (farK2 false ≡ acceptedByte t (r .k2) (s .k2))
   far-accepted t e = let parts = far-parts t e in (parts .0, parts .1)
 
-  far-asked : (failed : Bool) → far failed ≡ asked (farK1 failed)
+  pub far-asked : (failed : Bool) → far failed ≡ asked (farK1 failed)
   unfolding accepting
   far-asked true = refl
   far-asked false = far-parts (usable (s .n) (r .k1) (r .k2)) refl .2
@@ -198,24 +199,23 @@ module _ (s : Controller) (r : Row) (able : Able s) (quiet : alarm (s .n) (r .k1
 
     caused : (t : Bool) → failed ≡ t
         → Caused (s .n) (s .mask) (s .w) (s .left) last t (far t) (held last) (held x) x
-    caused t e =
-        subst (λ (b : Bool). Caused (s .n) (s .mask) (s .w) (s .left) last b (far b) (held last) (held x) x) e
-        record {
-          conditions = cause .conditions;
-          command = cause .command;
-          channel = cause .channel;
-          fits =
-              record {
-                number = well .number;
-                conditions-fit = well .conditions-fit;
-                command-fits = well .command-fits;
-                channel-fits = well .channel-fits;
-              };
-          protects = refl;
-          before = refl;
-          sends = sent-is;
-          afterwards = refl;
-        }
+    caused t e = (
+      cause,
+      subst (λ (b : Bool). CausedBy (s .n) (s .mask) (s .w) (s .left) last b (far b) (held last) (held x) x cause) e
+          record {
+            fits =
+                record {
+                  number = well .number;
+                  conditions-fit = well .conditions-fit;
+                  command-fits = well .command-fits;
+                  channel-fits = well .channel-fits;
+                };
+            protects = refl;
+            before = refl;
+            sends = sent-is;
+            afterwards = refl;
+          },
+    )
 
     second-is : (t : Bool) → failed ≡ t
         → secondFits (r .sentK2) (bridge (far t .channel) (x .channel) (keepsBridge x)) ≡ true
@@ -289,28 +289,26 @@ module _ (s : Controller) (r : Row) (able : Able s) (quiet : alarm (s .n) (r .k1
       go true e = let hides = failed-reached cause sends e in (hides .0, inl (hides .1, hides .2))
       go false e = (carried cause sends, inr (open-reached cause sends e))
 
-  -- and each of them is left by some cause
-  abbrev Some : Bool → Controller → Type 0
-  Some t u =
-      (cause : Cause)
-      × (eqb (protection (cause .conditions)) 2 ≡ t)
-      × Sends (stepped s cause r) r
-      × (u ≡ stepped s cause r .controller)
+  -- and each of them is left under the cause that is shown
+  abbrev pub LeadsTo : Cause → Controller → Type 0
+  LeadsTo cause u = Sends (stepped s cause r) r × (u ≡ stepped s cause r .controller)
 
-  caused-sends : (t : Bool) → Caused (s .n) (s .mask) (s .w) (s .left) last t (far t) (held last) (held x) x
+  abbrev pub shownIn : Request → Bool → Cause
+  shownIn shows failed = shownBy (s .n) (s .mask) (s .w) (s .left) last shows failed x
+
+  caused-sends : (t : Bool) (cause : Cause)
+      → CausedBy (s .n) (s .mask) (s .w) (s .left) last t (far t) (held last) (held x) x cause
       → secondFits (r .sentK2) (bridge (far t .channel) (x .channel) (keepsBridge x)) ≡ true
-      → Some t (recordAfter s now0 (farK1 t) (farK2 t) (r .sentK1))
-  caused-sends t by fits = (cause, by .protects, sends, sym (record-is cause sends t (by .protects)))
+      → LeadsTo cause (recordAfter s now0 (farK1 t) (farK2 t) (r .sentK1))
+  caused-sends t cause by fits = (sends, sym (record-is cause sends t (by .protects)))
     where
-      cause : Cause
-      cause = record { conditions = by .conditions; command = by .command; channel = by .channel }
-
       goes : stepped s cause r .refusal ≡ 0
       goes =
           let f = by .fits in
-          let number = eq-eqb (length (by .conditions)) (s .n + 1) (f .number) in
-          step-unrefused s (r .k1) (r .k2) (by .conditions) (by .command) (by .channel) (able .fits) (able .mask-fits)
-          (able .accepts) (rw (number, f .conditions-fit, le-leb (by .command) 4 (f .command-fits), f .channel-fits))
+          let number = eq-eqb (length (cause .conditions)) (s .n + 1) (f .number) in
+          step-unrefused s (r .k1) (r .k2) (cause .conditions) (cause .command) (cause .channel) (able .fits)
+          (able .mask-fits) (able .accepts)
+          (rw (number, f .conditions-fit, le-leb (cause .command) 4 (f .command-fits), f .channel-fits))
 
       sends : Sends (stepped s cause r) r
       sends =
@@ -324,29 +322,28 @@ module _ (s : Controller) (r : Row) (able : Able s) (quiet : alarm (s .n) (r .k1
                 ∙ sym (eqb-true (r .sentK2) (k2Of (bridge (far t .channel) (x .channel) (keepsBridge x))) fits);
           }
 
-  pub failed-sends : carries requests (s .n) (x .code) (x .channel) ≡ true → hiddenIn s x (r .sentK2) ≡ true
-      → Some true (recordAfter s now0 idleK1 idleK2 (r .sentK1))
+  -- with section 0 failed, as the cause says
+  pub failed-sends : (shows : Request) → carries requests (s .n) (x .code) (x .channel) ≡ true
+      → hiddenIn s x (r .sentK2) ≡ true
+      → LeadsTo (shownIn shows true) (recordAfter s now0 idleK1 idleK2 (r .sentK1))
   unfolding accepting
-  failed-sends carry h =
+  failed-sends shows carry h =
       let both = and-eq-true-iff (unseen (commanded (held last) (held x)) x) (secondFits (r .sentK2) 0) .0 h in
       let by =
-      one-hidden-step (s .n) (s .mask) (s .w) (s .left) last (held last) (held x) x carry .0
+      hidden-shown (s .n) (s .mask) (s .w) (s .left) last shows (held last) (held x) x carry
       record { before = refl; possible = both .0; afterwards = refl } in
-      caused-sends true by (rw (bridge-none (x .channel) (keepsBridge x)) (both .1))
+      caused-sends true (shownIn shows true) by (rw (bridge-none (x .channel) (keepsBridge x)) (both .1))
 
-  open-sends : carries requests (s .n) (x .code) (x .channel) ≡ true → opens (farK1 false) x (r .sentK2) local ≡ true
-      → Some false (recordAfter s now0 (farK1 false) (farK2 false) (r .sentK1))
-  open-sends carry h =
+  -- and with it not failed; `shows` as in OneStep
+  pub open-sends : (shows : Request) → (far false ≡ shows) ⊎ (mayWin (rankOfRequest (far false)) ≡ false)
+      → carries requests (s .n) (x .code) (x .channel) ≡ true → opens (farK1 false) x (r .sentK2) local ≡ true
+      → LeadsTo (shownIn shows false) (recordAfter s now0 (farK1 false) (farK2 false) (r .sentK1))
+  open-sends shows which carry h =
       let here = subst OpenBy (sym (far-asked false)) h in
       let both =
       and-eq-true-iff (answers (far false) x local)
       (secondFits (r .sentK2) (bridge (far false .channel) (x .channel) (keepsBridge x))) .0 here in
       let by =
-      one-step (s .n) (s .mask) (s .w) (s .left) last (far false) (held last) (held x) x carry .0
+      open-shown (s .n) (s .mask) (s .w) (s .left) last (far false) shows (held last) (held x) x which carry
       record { before = refl; possible = both .0; afterwards = refl } in
-      caused-sends false by (both .1)
-
-  pub reached-sends : (u : Controller) → Reached u → (t : Bool) × Some t u
-  reached-sends u (carry, how) =
-      ⊎-elim (λ h. (true, subst (Some true) (sym (h .1)) (failed-sends carry (h .0))))
-      (λ h. (false, subst (Some false) (sym (h .1)) (open-sends carry (h .0)))) how
+      caused-sends false (shownIn shows false) by (both .1)

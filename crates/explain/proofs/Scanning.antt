@@ -38,7 +38,7 @@ module _ {S C R : Type 0} (Does : S → C → R → Type 0) (after : S → C →
       Good d = (s : S) → In d s → Able s
 
       module _ (d : D) (r : R) (alive : live d ≡ true) (good : Good d) where
-        good-next : Good (next d r)
+        pub good-next : Good (next d r)
         good-next u i =
             let from = next-in d r u alive good .0 i in
             subst Able (sym (from .4)) (keeps (from .0) (from .1) r (good (from .0) (from .2)) (from .3))

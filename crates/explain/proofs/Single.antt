@@ -1,7 +1,7 @@
--- Conditions of which at most one is bad: all good but v at section c.
+-- Laws of conditions of which at most one is bad.
 use mathlib.Core.Path.{_≡_, refl, ap}
 use mathlib.Core.Bool.{true, false}
-use mathlib.Core.List.{List, [], _∷_}
+use mathlib.Core.List.{_∷_}
 use mathlib.Core.Logic.{_⊎_, inl, inr, ⊎-elim}
 use Prim.Native.Nat.{ℕ, zero, suc, _+_, _≤_, _<_, zero-le}
 use native.Mathlib.Nat.{add-zero, add-suc, suc-add, le-of-suc-le-suc, not-suc-le-zero}
@@ -13,12 +13,7 @@ use Rattle.request.specs.declared.Request.{Request}
 use Rattle.controller.specs.Rules.{noRequest, condition, conditionsFrom}
 use Rattle.controller.specs.Refusals.{conditionsFit}
 use Rattle.controller.specs.Step.{protection}
-
--- of k sections
-abbrev pub only : ℕ → ℕ → ℕ → List ℕ
-only zero c v = []
-only (suc k) zero v = v ∷ only k 0 0
-only (suc k) (suc c) v = 0 ∷ only k c v
+use Rattle.explain.specs.Cause.{only}
 
 pub only-length : (k c v : ℕ) → length (only k c v) ≡ k
 only-length zero c v = refl

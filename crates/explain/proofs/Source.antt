@@ -27,7 +27,7 @@ use Rattle.explain.proofs.Local.{standsOf, nowOf, wait-unclear, nearOf,
 use Rattle.explain.proofs.Commands.{command-cases, commanded-by, commanded-of}
 
 -- of the four parts of the closed form one is enough
-one-part : (a b c d : Bool) → (a ≡ true) ⊎ (b ≡ true) ⊎ (c ≡ true) ⊎ (d ≡ true) → a || b || c || d ≡ true
+pub one-part : (a b c d : Bool) → (a ≡ true) ⊎ (b ≡ true) ⊎ (c ≡ true) ⊎ (d ≡ true) → a || b || c || d ≡ true
 one-part true b c d h = refl
 one-part false true c d h = refl
 one-part false false true d h = refl
@@ -151,12 +151,12 @@ module _ (mask w left : ℕ) (last : Request) where
   pub local-arises : (n : ℕ) (x : Request) → Local mask w left last n false x
       → arises mask (commanded (held last) (held x)) (nowOf mask w left last 0) last x ≡ true
   unfolding arises
-  local-arises n x l =
+  local-arises n x (cause, made) =
       one-part (eqb (x .code) 0b0000) (commanded (held last) (held x)) (conditioned mask x)
       (waited (nowOf mask w left last 0) last x)
-      (part (l .conditions) (l .command) (l .channel) (l .protects) x
-      (subst (Source (l .conditions) (l .command) (l .channel)) (l .near)
-      (source (l .conditions) (l .command) (l .channel))))
+      (part (cause .conditions) (cause .command) (cause .channel) (made .protects) x
+      (subst (Source (cause .conditions) (cause .command) (cause .channel)) (made .near)
+      (source (cause .conditions) (cause .command) (cause .channel))))
 
   -- below SF0: every condition of a section
   section-low : (c v : ℕ) → 1 ≤ c → rankOfRequest (condition mask c v) < 9
@@ -242,10 +242,10 @@ module _ (mask w left : ℕ) (last : Request) where
         absurd (omega arith)
 
   pub local-unseen : (n : ℕ) (x : Request) → Local mask w left last n true x → unseen (commanded (held last) (held x)) x ≡ true
-  local-unseen n x l =
-      let failed = eqb-true (protection (l .conditions)) 2 (l .protects) in
-      subst (λ (y : Request). unseen (commanded (held last) (held y)) y ≡ true) (l .near)
-      (hidden (l .conditions) (l .command) (l .channel) failed
-      (nearOf mask w left last (l .conditions) (l .command) (l .channel))
-      (least (l .conditions) (l .command) (l .channel) failed)
-      (source (l .conditions) (l .command) (l .channel)))
+  local-unseen n x (cause, made) =
+      let failed = eqb-true (protection (cause .conditions)) 2 (made .protects) in
+      subst (λ (y : Request). unseen (commanded (held last) (held y)) y ≡ true) (made .near)
+      (hidden (cause .conditions) (cause .command) (cause .channel) failed
+      (nearOf mask w left last (cause .conditions) (cause .command) (cause .channel))
+      (least (cause .conditions) (cause .command) (cause .channel) failed)
+      (source (cause .conditions) (cause .command) (cause .channel)))

@@ -1,14 +1,16 @@
 -- The front door: what is proved of the judge, each theorem in full with the line that cites its proof.
 use mathlib.Core.Path.{_≡_, refl}
-use mathlib.Core.Bool.{true, false}
+use mathlib.Core.Bool.{Bool, true, false}
 use mathlib.Core.List.{List}
-use mathlib.Core.Logic.{_↔_, _⊎_}
-use Prim.Native.Nat.{ℕ, _+_, _<_}
+use mathlib.Core.Logic.{_↔_, _⊎_, inl}
+use Prim.Native.Nat.{ℕ, _+_, _≤_, _<_}
 use lib.Dec.{eqb}
 use lib.ListN.{length, take}
+use denote.Ref.{now}
 use Rattle.basics.specs.First.{firstOf}
+use Rattle.basics.specs.Table.{every}
 use Rattle.basics.specs.Settings.{sectionsFit, maskFits}
-use Rattle.basics.proofs.One.{OneAnswer}
+use Rattle.basics.proofs.One.{OneSeen, OneAnswer}
 use Rattle.pair.specs.Request.{requests, carries}
 use Rattle.pair.specs.Marks.{alarm}
 use Rattle.request.specs.declared.Request.{Request}
@@ -17,24 +19,30 @@ use Rattle.controller.specs.Rules.{noRequest}
 use Rattle.controller.specs.Refusals.{acceptable}
 use Rattle.controller.specs.Step.{protection}
 use Rattle.controller.specs.declared.Controller.{Controller}
-use Rattle.basics.specs.Capture.{Row, row, rowsOf}
-use Rattle.explain.specs.Explained.{Cause, stepped, Sends, Explained}
-use Rattle.explain.specs.Verdict.{Judging, explainedAt, unexplainedAt, refusedBy, judgeFaults, Right}
+use Rattle.basics.specs.Capture.{Row, row, rowsOf, sizeFaults}
+use Rattle.explain.specs.Explained.{Cause, stepped, Sends, Explains, Explained}
+use Rattle.explain.specs.Causes.{noOtherBit, causesIn, Causes, fixedIn}
+use Rattle.explain.specs.Verdict.{Judging, explainedAt, unexplainedAt, refusedBy, told, judgeFaults, Right}
 use Rattle.explain.specs.Lines.{lines, AllRight}
 use Rattle.explain.specs.Trace.{idled, start, live, next}
 use Rattle.explain.specs.declared.Records.{Records}
-use Rattle.explain.proofs.OneStep.{Caused, Open, Hidden, one-step, one-hidden-step}
+use Rattle.explain.proofs.OneStep.{CausedBy, Caused, Open, Hidden, shownBy, open-shown, hidden-shown, one-step, one-hidden-step}
 use Rattle.explain.proofs.Alarmed.{alarm-exact}
 use Rattle.explain.proofs.Reached.{Able, able-next}
-use Rattle.explain.proofs.Possible.{In, next-in}
-use Rattle.explain.proofs.Exact.{explained-prefix, begin-able, right-one, told-one, explained-exact}
+use Rattle.explain.proofs.Possible.{In, flag, pick, causeShown, failedBy, idleBy, next-led, next-in}
+use Rattle.explain.proofs.Exact.{explained-prefix, begin-able, answer-one, told-one, explained-exact}
 use Rattle.explain.proofs.Exact.{unexplained-exact, first-within}
 use Rattle.explain.proofs.Judged.{right-some, right-refused}
+use Rattle.explain.proofs.Tables.{shown-causes, judged, verdict-one, fixed-one}
 use Rattle.explain.proofs.Computed.{lines-all-right}
 use Rattle.explain.proofs.judge.Kinds as judge-kinds
 use Rattle.explain.proofs.judge.Reads as judge-fn
 use Rattle.explain.proofs.judge.Statement as judge-statement
 use Rattle.explain.proofs.judge.Met as judge-met
+use Rattle.explain.proofs.judge_causes.Kinds as causes-kinds
+use Rattle.explain.proofs.judge_causes.Reads as causes-fn
+use Rattle.explain.proofs.judge_causes.Statement as causes-statement
+use Rattle.explain.proofs.judge_causes.Met as causes-met
 
 -- The judge's verdict is right, for every input: refused by the first number that applies; else explained, with the number
 -- of steps, and some sequence of causes explains them; or unexplained i, and some sequence explains the first i steps and
@@ -44,17 +52,51 @@ judge-right = judge-met.met
 
 -- Two verdicts that the promise allows are equal. (`Post` is the function's `ensures`.)
 judge-unique : OneAnswer 1 judge-kinds.ps judge-kinds.r judge-fn.Post
-judge-unique κs args x y s t p q = told-one x y (right-one _ _ _ _ _ _ p q)
+judge-unique κs args x y s t p q = told-one x y (answer-one _ _ _ _ _ _ _ p q)
+
+-- The same of the judge that shows the causes: for every input the right answer behind its refusals, and the tables by it.
+causes-right : {M : Type 1} → causes-statement.statement M
+causes-right = causes-met.met
+
+causes-unique : OneAnswer 3 causes-kinds.ps causes-kinds.r causes-fn.Post
+causes-unique κs args x y s t p q = told-one x y (verdict-one p q)
+
+-- Two contents of a table that the promise allows differ at most where causes are shown: nowhere, if the capture is not
+-- explained, and else not from the entry behind the last step on.
+conditions-unique :
+    OneSeen 3 causes-kinds.ps causes-kinds.r causes-fn.Post (λ κs. List ℕ)
+    (λ κs x exit. fixedIn (told x) (now (exit .1 .1 .1 .1 .0)))
+conditions-unique κs args x y s t p q = fixed-one p q .0
+
+commands-unique :
+    OneSeen 3 causes-kinds.ps causes-kinds.r causes-fn.Post (λ κs. List ℕ)
+    (λ κs x exit. fixedIn (told x) (now (exit .1 .1 .1 .1 .1 .0)))
+commands-unique κs args x y s t p q = fixed-one p q .1
+
+-- What is shown: of an explained capture, causes under which the controller's own step, from a fresh record, sends its rows;
+-- no bit is set above section n.
+causes-explain : (n mask w : ℕ) (bytes old old2 : List ℕ) (j : Judging) (new new2 : List ℕ) →
+    let steps = length (rowsOf bytes) in
+    Causes n mask w bytes old old2 j new new2 → j .verdict ≡ 1
+    → Explains (fresh n mask w) (causesIn n (take steps new) (take steps new2)) (rowsOf bytes)
+    × (every (noOtherBit n) (take steps new) ≡ true)
+causes-explain n mask w bytes old old2 j new new2 = shown-causes
+
+-- Its verdict is the judge's, where neither table is shorter than the steps.
+causes-verdict : (n mask w : ℕ) (bytes old old2 : List ℕ) (j : Judging) (new new2 : List ℕ)
+    → Causes n mask w bytes old old2 j new new2 → length (rowsOf bytes) ≤ length old → length (rowsOf bytes) ≤ length old2
+    → Right n mask w bytes j
+causes-verdict n mask w bytes old old2 j new new2 = judged
 
 -- Every capture has a right answer, whatever its settings and bytes.
 judge-complete : (n mask w : ℕ) (bytes : List ℕ) → (j : Judging) × Right n mask w bytes j
-judge-complete = right-some
+judge-complete n mask w bytes = right-some n mask w bytes (sizeFaults (length bytes))
 
 -- A capture that is refused has the first refusal for its answer.
 refused-exact : (n mask w : ℕ) (bytes : List ℕ) (j : Judging) →
     let refusal = firstOf (judgeFaults n mask (length bytes)) in
     Right n mask w bytes j → (refusal ≡ 0 → ⊥) → j ≡ refusedBy refusal
-refused-exact = right-refused
+refused-exact n mask w bytes = right-refused n mask w bytes (sizeFaults (length bytes))
 
 -- One that is not refused: explained is answered exactly if some sequence explains all steps, and unexplained i exactly if
 -- some sequence explains the first i and none the first i + 1.
@@ -85,11 +127,23 @@ step-exact : (n mask w left : ℕ) (last far hold after x : Request) → carries
     → Open n mask w left last far hold after x ↔ Caused n mask w left last false far hold after x
 step-exact = one-step
 
+-- The cause that is shown is one of these: where the closed form holds, it makes the controller send the request. (`CausedBy`
+-- is `Caused` of one cause; `shownBy` is the cause, from what the far end asks, section 0 failed or not, and the request.)
+step-shown : (n mask w left : ℕ) (last far hold after x : Request) → carries requests n (x .code) (x .channel) ≡ true
+    → Open n mask w left last far hold after x
+    → CausedBy n mask w left last false far hold after x (shownBy n mask w left last far false x)
+step-shown n mask w left last far hold after x = open-shown n mask w left last far far hold after x (inl refl)
+
 -- And with section 0 failed, when 00 08 is accepted.
 hidden-step-exact : (n mask w left : ℕ) (last hold after x : Request)
     → carries requests n (x .code) (x .channel) ≡ true
     → Hidden n mask w left last hold after x ↔ Caused n mask w left last true noRequest hold after x
 hidden-step-exact = one-hidden-step
+
+hidden-step-shown : (n mask w left : ℕ) (last far hold after x : Request)
+    → carries requests n (x .code) (x .channel) ≡ true → Hidden n mask w left last hold after x
+    → CausedBy n mask w left last true noRequest hold after x (shownBy n mask w left last far true x)
+hidden-step-shown = hidden-shown
 
 -- A row that received an alarm (02, c): some cause leads to a record by it exactly if one with section 0 failed does by the
 -- row that received 00 08. So it needs no closed form of its own.
@@ -122,6 +176,16 @@ records-exact : (d : Records) (r : Row) → ((s : Controller) → In d s → Abl
     → In (next d r) u
     ↔ ((s : Controller) × (c : Cause) × In d s × Sends (stepped s c r) r × (u ≡ stepped s c r .controller))
 records-exact = next-in
+
+-- One row back. `pick d idle` is the record that the flag `flag d idle` leaves open. Each that is open behind a row is reached
+-- from one that was open before it, under the cause that is shown.
+records-shown : (d : Records) (r : Row) → ((s : Controller) → In d s → Able s) → live d ≡ true → (idle : Bool)
+    → flag (next d r) idle ≡ true →
+    let before = pick d (idleBy d r idle) in
+    let cause = causeShown d r (failedBy d r idle) in
+    (flag d (idleBy d r idle) ≡ true)
+    × (Sends (stepped before cause r) r × (pick (next d r) idle ≡ stepped before cause r .controller))
+records-shown = next-led
 
 -- Both premises hold at the start of a scan, and stay: the scan goes on while it is `live`, and a step from an able record
 -- answers an able one.

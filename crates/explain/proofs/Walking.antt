@@ -2,15 +2,15 @@
 use mathlib.Core.Path.{_≡_, refl, sym, ap, _∙_}
 use mathlib.Core.Bool.{true, false}
 use mathlib.Core.List.{List, _∷_}
-use Prim.Native.Nat.{ℕ, suc, _+_, _*_, _-_, _%_, _≤_, _<_, zero-le}
+use Prim.Native.Nat.{ℕ, _+_, _*_, _%_, _≤_, _<_, zero-le}
 use native.Mathlib.Numerals.{add-one}
 use native.Mathlib.Omega.{arith}
-use lib.ListN.{length, getD, drop, drop-of-length-le}
-use lib.Seq.{drop-cons}
-use Rattle.basics.specs.Capture.{Row, row, rowsOf, most}
+use lib.ListN.{length, drop, drop-of-length-le}
+use Rattle.basics.specs.Capture.{Row, rowsOf, most}
 use Rattle.explain.specs.Scan.{all, first, scanFrom}
 use Rattle.explain.specs.Trace.{live, next, Fit, verdictOf}
 use Rattle.explain.specs.declared.Records.{Records}
+use Rattle.explain.proofs.Rows.{rowAt, row-here}
 use Rattle.explain.proofs.Ranked.{next-fit}
 
 -- at a step, behind the bytes of those before it
@@ -31,7 +31,7 @@ walk-start bytes begin whole small fit =
 
 module _ {bytes : List ℕ} {begin possible : Records} {step at : ℕ} (w : Walk bytes begin possible step at) where
   abbrev here : Row
-  here = row (getD bytes at 0) (getD bytes (at + 1) 0) (getD bytes (at + 2) 0) (getD bytes (at + 3) 0)
+  here = rowAt bytes at
 
   -- a step begun is there whole
   pub whole-step : at < length bytes → at + 4 ≤ length bytes
@@ -46,36 +46,14 @@ module _ {bytes : List ℕ} {begin possible : Records} {step at : ℕ} (w : Walk
       let q = w .small in
       omega arith
 
-  row-here : at < length bytes → rowsOf (drop at bytes) ≡ here ∷ rowsOf (drop (at + 4) bytes)
-  row-here h =
-      let room = whole-step h in
-      let first : drop at bytes ≡ getD bytes at 0 ∷ drop (suc at) bytes = drop-cons bytes at 0 h in
-      let second : drop (at + 1) bytes ≡ getD bytes (at + 1) 0 ∷ drop (suc (at + 1)) bytes =
-      drop-cons bytes (at + 1) 0 (omega arith) in
-      let third : drop (at + 2) bytes ≡ getD bytes (at + 2) 0 ∷ drop (suc (at + 2)) bytes =
-      drop-cons bytes (at + 2) 0 (omega arith) in
-      let fourth : drop (at + 3) bytes ≡ getD bytes (at + 3) 0 ∷ drop (suc (at + 3)) bytes =
-      drop-cons bytes (at + 3) 0 (omega arith) in
-      let one : suc at ≡ at + 1 = omega arith in
-      let two : suc (at + 1) ≡ at + 2 = omega arith in
-      let three : suc (at + 2) ≡ at + 3 = omega arith in
-      let four : suc (at + 3) ≡ at + 4 = omega arith in
-      ap rowsOf
-      (first
-      ∙ ap (λ (l : List ℕ). getD bytes at 0 ∷ l) (ap (λ (i : ℕ). drop i bytes) one
-      ∙ second
-      ∙ ap (λ (l : List ℕ). getD bytes (at + 1) 0 ∷ l) (ap (λ (i : ℕ). drop i bytes) two
-      ∙ third
-      ∙ ap (λ (l : List ℕ). getD bytes (at + 2) 0 ∷ l) (ap (λ (i : ℕ). drop i bytes) three
-      ∙ fourth
-      ∙ ap (λ (l : List ℕ). getD bytes (at + 3) 0 ∷ l) (ap (λ (i : ℕ). drop i bytes) four)))))
-
   abbrev rest : List Row
   rest = rowsOf (drop (at + 4) bytes)
 
   step-here : at < length bytes
       → verdictOf (scanFrom next live step possible (here ∷ rest)) ≡ verdictOf (scanFrom next live 0 begin (rowsOf bytes))
-  step-here h = ap (λ (l : List Row). verdictOf (scanFrom next live step possible l)) (sym (row-here h)) ∙ w .remains
+  step-here h =
+      let first = row-here bytes at (whole-step h) in
+      ap (λ (l : List Row). verdictOf (scanFrom next live step possible l)) (sym first) ∙ w .remains
 
   pub walk-next : at < length bytes → {new : Records} → new ≡ next possible here → live new ≡ true
       → Walk bytes begin new (step + 1) (at + 4)

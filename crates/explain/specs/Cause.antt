@@ -1,14 +1,16 @@
--- What some cause makes a controller send: closed forms, over the command held before the step and the one held after it.
--- The forms `..At` take the rank of what is sent; the others look it up.
+-- What some cause makes a controller send: closed forms, over the command held before the step and the one held after it; and
+-- the cause that is shown. The forms `..At` take the rank of what is sent; the others look it up.
 use mathlib.Core.Bool.{Bool, not, _&&_, _||_}
-use Prim.Native.Nat.{ℕ}
-use lib.Dec.{leb, eqb}
+use mathlib.Core.List.{List, [], _∷_}
+use Prim.Native.Nat.{ℕ, zero, suc}
+use lib.Dec.{ltb, leb, eqb}
 use Rattle.basics.specs.Choice.{if_then_else_}
-use Rattle.pair.specs.Request.{lockoutCode, failHighCode, reverseCode, nothingCode}
+use Rattle.pair.specs.Request.{lockoutCode, forcedCode, failHighCode, reverseCode, nothingCode}
 use Rattle.request.specs.Order.{mayWin, better, same}
 use Rattle.request.specs.Command.{replaces}
 use Rattle.request.specs.declared.Request.{Request}
-use Rattle.controller.specs.Rules.{rankOfRequest, condition, isWait}
+use Rattle.controller.specs.Rules.{rankOfRequest, held, condition, isWait}
+use Rattle.explain.specs.Explained.{Cause}
 
 -- a command goes on, or its rank lets it replace the one that was held
 abbrev pub follows : Bool → ℕ → ℕ → Bool
@@ -52,3 +54,74 @@ answersAt rank far x local =
 
 unfoldable pub answers : Request → Request → Bool → Bool
 answers far x local = answersAt (rankOfRequest x) far x local
+
+-- What is sent in a row that some cause explains: a local request, but for RR and SF0; and SF0 and LO alone may be sent under a
+-- failed section 0.
+abbrev pub isSF0 : Request → Bool
+isSF0 x = eqb (x .channel) 0 && eqb (x .code) failHighCode
+
+abbrev pub isLocal : Request → Bool
+isLocal x = not (eqb (x .code) reverseCode) && not (isSF0 x)
+
+abbrev pub mayHide : Request → Bool
+mayHide x = eqb (x .channel) 0 && (eqb (x .code) failHighCode || eqb (x .code) lockoutCode)
+
+-- The cause that is shown (02, a), of all that there may be. Conditions of k sections: all good but v at section c.
+abbrev pub only : ℕ → ℕ → ℕ → List ℕ
+only zero c v = []
+only (suc k) zero v = v ∷ only k 0 0
+only (suc k) (suc c) v = 0 ∷ only k c v
+
+-- the condition of its own section that asks for what is sent, or 0
+abbrev pub badFor : ℕ → Request → ℕ
+badFor mask x =
+    if eqb (x .code) (condition mask (x .channel) 1 .code) then 1
+    else if eqb (x .code) (condition mask (x .channel) 2 .code) then 2
+    else 0
+
+-- a command is sent that was not sent last, so it is given in this step
+abbrev pub isNew : Request → Request → Bool
+isNew last x = not (eqb (held x .code) nothingCode) && not (same x last)
+
+-- what is sent goes on by itself: a command, or the wait
+abbrev pub goesOn : Request → Bool
+goesOn x = not (eqb (held x .code) nothingCode) || isWait (x .code)
+
+-- without a clear the held command, of rank `prior`, or the wait, of rank 2, would be at least as loud as this rank
+abbrev pub louder : ℕ → ℕ → ℕ → Bool
+louder rank prior now = ltb 0 prior && leb rank prior || ltb 0 now && leb rank 2
+
+-- the rank that decides: that of what the far end asks for, if RR is sent; else that of what is sent
+abbrev pub deciding : ℕ → Request → ℕ → ℕ
+deciding theirs x rank = if eqb (x .code) reverseCode then theirs else rank
+
+-- the number of a command in the paper's list
+abbrev pub numberOf : ℕ → ℕ
+numberOf code =
+    if eqb code lockoutCode then 2
+    else if eqb code forcedCode then 3
+    else 4
+
+-- the new command; a clear where something else would be louder; or none
+abbrev pub commandFor : Request → Request → Bool → ℕ
+commandFor last x loud =
+    if isNew last x then numberOf (x .code)
+    else if not (goesOn x) && loud then 1
+    else 0
+
+abbrev pub channelFor : Request → Request → ℕ
+channelFor last x = if isNew last x then x .channel else 0
+
+-- whether something would be louder than what decides
+abbrev pub isLouder : ℕ → Request → Request → Request → Bool
+isLouder now last far x =
+    louder (deciding (rankOfRequest far) x (rankOfRequest x)) (rankOfRequest (held last)) now
+
+-- section 0 failed, or the one section whose request is sent
+abbrev pub causeFor : ℕ → ℕ → ℕ → Request → Request → Bool → Request → Cause
+causeFor n mask now last far failed x =
+    record {
+      conditions = if failed then only (suc n) 0 2 else only (suc n) (x .channel) (badFor mask x);
+      command = commandFor last x (isLouder now last far x);
+      channel = channelFor last x;
+    }

@@ -13,13 +13,14 @@ use Rattle.pair.specs.Marks.{channelOf, usable, alarmIn}
 use Rattle.request.specs.Bridge.{bridge}
 use Rattle.request.specs.declared.Request.{Request}
 use Rattle.controller.specs.Settings.{idleK1, idleK2}
-use Rattle.controller.specs.Rules.{asked, held, leftAfter, keepsBridge, k2Of}
+use Rattle.controller.specs.Rules.{asked, rankOfRequest, held, leftAfter, keepsBridge, k2Of}
 use Rattle.controller.specs.Step.{waitOf}
 use Rattle.controller.specs.declared.Controller.{Controller}
 use Rattle.basics.specs.Capture.{Row, rowsOf}
 use Rattle.explain.specs.Cause.{commanded, arises, unseen, answersAt, answers}
 use Rattle.explain.specs.Scan.{Scanned, all, first, scanFrom}
 use Rattle.explain.specs.Verdict.{Judging, explainedAt, unexplainedAt}
+use Rattle.explain.specs.declared.Heard.{Heard}
 use Rattle.explain.specs.declared.Records.{Records}
 
 -- the record with 00 08 accepted
@@ -78,6 +79,13 @@ recordAfter s now k1 k2 sentK1 =
 abbrev pub acceptedByte : Bool → ℕ → ℕ → ℕ
 acceptedByte fits received before = if fits then received else before
 
+-- the pair that is accepted behind a row unless section 0 has failed
+abbrev pub heardBy : Controller → ℕ → ℕ → Heard
+heardBy s k1 k2 =
+    let fits = usable (s .n) k1 k2 in
+    let accepted = acceptedByte fits k1 (s .k1) in
+    record { fits = fits; k1 = accepted; k2 = acceptedByte fits k2 (s .k2); rank = rankOfRequest (asked accepted) }
+
 -- what is left open behind a row: the sent K1 stands in the table; with a usable pair received that pair is accepted, unless
 -- section 0 has failed; and with an alarm received section 0 has failed
 abbrev pub leftOpen : Records → Controller → Bool → Bool → Bool → Bool → Bool → Bool → Records
@@ -98,10 +106,9 @@ nextWith command opened d r =
     let now = waitOf s last 0 in
     let local = arises (s .mask) command now last x in
     let carried = carries requests (s .n) (x .code) (x .channel) in
-    let fits = usable (s .n) (r .k1) (r .k2) in
-    let k1 = acceptedByte fits (r .k1) (s .k1) in
-    let after = recordAfter s now k1 (acceptedByte fits (r .k2) (s .k2)) (r .sentK1) in
-    leftOpen d after carried (not (alarmIn (r .k2))) fits (opened k1 local) (opened idleK1 local)
+    let far = heardBy s (r .k1) (r .k2) in
+    let after = recordAfter s now (far .k1) (far .k2) (r .sentK1) in
+    leftOpen d after carried (not (alarmIn (r .k2))) (far .fits) (opened (far .k1) local) (opened idleK1 local)
     (unseen command x && secondFits (r .sentK2) 0)
 
 unfoldable pub next : Records → Row → Records

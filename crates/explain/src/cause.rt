@@ -10,11 +10,11 @@ use request::Request;
 use request::better;
 use request::replaces;
 ghost use Rattle.controller.specs.Rules.{rankOfRequest, held};
-ghost use Rattle.explain.specs.Cause.{rankHeld, follows, commandedAt, conditioned, waited, arises, unseen, answersAt};
+ghost use Rattle.explain.specs.Cause.{rankHeld, follows, commandedAt, conditioned, waited, arises, unseen, answersAt, isSF0, isLocal, mayHide};
 ghost use mathlib.Core.Path.{_≡_};
 
 // The rank of the command that is held, if one is.
-fn rank_held(hold: Request, rank: u8) -> u8
+pub(crate) fn rank_held(hold: Request, rank: u8) -> u8
     ensures { λ r. ⌜ r ≡ rankHeld hold rank ⌝ }
 {
     if hold.code == NOTHING { 0 } else { rank }
@@ -73,4 +73,23 @@ pub(crate) fn answers(far: Request, theirs: u8, x: Request, rank: u8, local: boo
     let beaten = better(theirs, far.channel, rank, x.channel);
     let reversed = (x.code == REVERSE) & (0 < theirs) & (far.channel == x.channel);
     reversed | (local & !beaten)
+}
+
+fn is_sf0(x: Request) -> bool
+    ensures { λ r. ⌜ r ≡ isSF0 x ⌝ }
+{
+    (x.channel == 0) & (x.code == FAIL_HIGH)
+}
+
+pub(crate) fn is_local(x: Request) -> bool
+    ensures { λ r. ⌜ r ≡ isLocal x ⌝ }
+{
+    let protects = is_sf0(x);
+    (x.code != REVERSE) & !protects
+}
+
+pub(crate) fn may_hide(x: Request) -> bool
+    ensures { λ r. ⌜ r ≡ mayHide x ⌝ }
+{
+    (x.channel == 0) & ((x.code == FAIL_HIGH) | (x.code == LOCKOUT))
 }

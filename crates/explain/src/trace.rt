@@ -1,4 +1,5 @@
 // The scan: what the bytes so far leave open of the controller's record (01, 'The judge').
+use crate::Heard;
 use crate::Records;
 use crate::Verdict;
 use crate::cause::answers;
@@ -19,14 +20,16 @@ use request::Request;
 use request::bridge;
 ghost use Prim.Native.Nat.{_≤_, _%_};
 ghost use Rattle.basics.specs.Capture.{row, most};
+ghost use Rattle.basics.specs.Settings.{sectionsFit};
 ghost use Rattle.explain.specs.Scan.{first};
 ghost use Rattle.controller.specs.Rules.{rankOfRequest, asked};
-ghost use Rattle.explain.specs.Trace.{start, live, secondFits, opensAt, recordAfter, acceptedByte, leftOpen, next, Fit, verdictOf, scanned};
+ghost use Rattle.explain.specs.Trace.{start, live, secondFits, opensAt, recordAfter, acceptedByte, heardBy, leftOpen, next, Fit, verdictOf, scanned};
 ghost use Rattle.explain.specs.Verdict.{told};
 ghost use Rattle.pair.specs.Marks.{channelOf};
 ghost use Rattle.pair.specs.Request.{requests};
 ghost use Rattle.pair.specs.Table.{tableOf};
 ghost use lib.ListN.{length};
+ghost use mathlib.Core.Bool.{true};
 ghost use mathlib.Core.Path.{_≡_};
 
 // A sent K2 has bit 5 and the line bits 000.
@@ -37,14 +40,14 @@ fn second_fits(k2: u8, bridged: u8) -> bool
 }
 
 // The rank of a K1 whose channel some group has.
-fn rank_at(table: &[u16; 256], k1: u8) -> u8
+pub(crate) fn rank_at(table: &[u16; 256], k1: u8) -> u8
     requires { ⌜ (now table ≡ tableOf requests) × (channelOf k1 ≤ 14) ⌝ }
     ensures { λ r. ⌜ r ≡ rankOfRequest (asked k1) ⌝ }
 {
     rank_in(table[k1 as usize])
 }
 
-fn opens(k1: u8, theirs: u8, x: Request, rank: u8, k2: u8, local: bool) -> bool
+pub(crate) fn opens(k1: u8, theirs: u8, x: Request, rank: u8, k2: u8, local: bool) -> bool
     requires { ⌜ theirs ≡ rankOfRequest (asked k1) ⌝ }
     ensures { λ r. ⌜ r ≡ opensAt rank k1 x k2 local ⌝ }
 {
@@ -54,7 +57,7 @@ fn opens(k1: u8, theirs: u8, x: Request, rank: u8, k2: u8, local: bool) -> bool
 }
 
 // The K1 last sent and the wait left follow from what was sent.
-fn record_after(s: Controller, now: u16, k1: u8, k2: u8, sent: u8) -> Controller
+pub(crate) fn record_after(s: Controller, now: u16, k1: u8, k2: u8, sent: u8) -> Controller
     ensures { λ r. ⌜ r ≡ recordAfter s now k1 k2 sent ⌝ }
 {
     let left = if sent / 16 == WAIT_TO_RESTORE { now } else { 0 };
@@ -95,8 +98,23 @@ fn left_open(
     }
 }
 
+// One look for the received K1.
+pub(crate) fn heard(table: &[u16; 256], s: Controller, k1: u8, k2: u8) -> Heard
+    requires { ⌜ (now table ≡ tableOf requests) × (sectionsFit (s .n) ≡ true) × (channelOf (s .k1) ≤ 14) ⌝ }
+    ensures { λ r. ⌜ r ≡ heardBy s k1 k2 ⌝ }
+{
+    let received = table[k1 as usize];
+    let fits = usable_in(received, s.n) & second_usable(s.n, k2);
+    Heard {
+        fits,
+        k1: accepted_byte(fits, k1, s.k1),
+        k2: accepted_byte(fits, k2, s.k2),
+        rank: accepted_byte(fits, rank_in(received), rank_at(table, s.k1)),
+    }
+}
+
 // The same few operations whatever the bytes are: a branch that is taken in one step and not in the next costs more than
-// what it would save. One look for each K1.
+// what it would save.
 pub(crate) fn next(table: &[u16; 256], d: Records, k1: u8, k2: u8, sent1: u8, sent2: u8) -> Records
     requires { ⌜ (now table ≡ tableOf requests) × Fit d ⌝ }
     ensures { λ r. ⌜ r ≡ next d (row k1 k2 sent1 sent2) ⌝ }
@@ -111,17 +129,23 @@ pub(crate) fn next(table: &[u16; 256], d: Records, k1: u8, k2: u8, sent1: u8, se
     let command = commanded(last, rank_at(table, s.sent), x, rank);
     let local = arises(s.mask, command, now, last, x);
     let hidden = unseen(command, x) & second_fits(sent2, 0);
-    let received = table[k1 as usize];
-    let fits = usable_in(received, s.n) & second_usable(s.n, k2);
-    let far = accepted_byte(fits, k1, s.k1);
-    let theirs = accepted_byte(fits, rank_in(received), rank_at(table, s.k1));
-    let opened = opens(far, theirs, x, rank, sent2, local);
+    let far = heard(table, s, k1, k2);
+    let opened = opens(far.k1, far.rank, x, rank, sent2, local);
     let idle = Controller::IDLE_K1;
     let opened_idle = opens(idle, rank_at(table, idle), x, rank, sent2, local);
-    let after = record_after(s, now, far, accepted_byte(fits, k2, s.k2), sent1);
+    let after = record_after(s, now, far.k1, far.k2, sent1);
     // A row with an alarm is one with section 0 failed (02, c).
     let quiet = !alarm(k2);
-    left_open(d, after, carried, quiet, fits, opened, opened_idle, hidden)
+    left_open(
+        d,
+        after,
+        carried,
+        quiet,
+        far.fits,
+        opened,
+        opened_idle,
+        hidden,
+    )
 }
 
 fn live(d: Records) -> bool

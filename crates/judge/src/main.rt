@@ -3,12 +3,10 @@
 mod table;
 
 use crate::table::put_table;
+use book::INPUT;
 use libc::STDIN_FILENO;
 use libc::STDOUT_FILENO;
 use page::front;
-
-// One byte more than a book may have, so that a longer input reads as too long (refusal 20).
-const INPUT: usize = 65537;
 
 // A table has a header of 34 bytes and at most 64 lines, none of more than 30, as '63 14 16191 unexplained 16190'.
 const ROOM: usize = 2048;

@@ -6,20 +6,9 @@ use book::read;
 use explain::Verdict;
 use explain::judge;
 use page::put;
-use page::put_number;
+use page::put_field;
+use page::put_last;
 ghost use Prim.Native.Nat.{_≤_};
-
-fn put_field(page: &mut [u8], at: usize, v: u64) -> usize {
-    let at = put_number(page, at, v);
-    put(page, at, b" ")
-}
-
-// The end of a line: a word, and the number that goes with it.
-fn put_last(page: &mut [u8], at: usize, word: &[u8], v: u64) -> usize {
-    let at = put(page, at, word);
-    let at = put_number(page, at, v);
-    put(page, at, b"\n")
-}
 
 // The last case does not come up: of a book that was read the settings fit (`settings-right` of `book`), and no capture of it
 // is refused by the judge (`captures-judged` of `chainplater`). The judge has it for its other callers.

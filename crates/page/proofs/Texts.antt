@@ -1,7 +1,7 @@
 -- Laws of a text at a place: with room it stands there, without it the page is as it was.
 use mathlib.Core.Path.{_≡_, refl, sym, ap, _∙_}
 use mathlib.Core.Bool.{Bool, true, false}
-use mathlib.Core.List.{List, _++_}
+use mathlib.Core.List.{List, [], _∷_, _++_}
 use Prim.Native.Nat.{ℕ, _+_, _-_, _≤_, _<_}
 use native.Mathlib.Omega.{arith}
 use lib.Dec.{leb}
@@ -9,7 +9,7 @@ use lib.ListN.{length, take, drop, length-append, length-drop}
 use lib.Seq.{sets, sets-eq, length-sets}
 use borrow.Author.Tests.{leb-true, leb-false, le-leb, lt-leb}
 use Rattle.basics.proofs.Bytes.{rest-part, back, lent, copied, sets-joined}
-use Rattle.page.specs.Text.{withText, textEnd}
+use Rattle.page.specs.Text.{withText, textEnd, withTexts, textsEnd, joined, lineStart}
 
 -- the room at a place is what is left of the page there
 pub left-over : (size at more : ℕ) → at ≤ size → leb more (size - at) ≡ leb (at + more) size
@@ -67,6 +67,13 @@ pub retold : (page after text other : List ℕ) (at end : ℕ) → text ≡ othe
     → (end ≡ textEnd page at other) × (after ≡ withText page at other)
 retold page after text other at end e put = rw e at put
 
+-- a text was put, and then more of them where it ends
+pub behind : (page between after : List ℕ) (at next end : ℕ) (text : List ℕ) (more : List (List ℕ))
+    → (next ≡ textEnd page at text) × (between ≡ withText page at text)
+    → (end ≡ textsEnd between next more) × (after ≡ withTexts between next more)
+    → (end ≡ textsEnd page at (text ∷ more)) × (after ≡ withTexts page at (text ∷ more))
+behind page between after at next end text more first rest = rw (first .0, first .1) at rest
+
 -- two texts, the second where the first ends, are one
 pub texts-one : (page : List ℕ) (at : ℕ) (first second : List ℕ) → at + length (first ++ second) ≤ length page
     → withText (withText page at first) (textEnd page at first) second ≡ withText page at (first ++ second)
@@ -79,3 +86,21 @@ texts-one page at first second room =
     ∙ sets-joined first second page between _ at (text-put page at first room₁)
     (text-put between (at + length first) second room₂)
     ∙ sym (text-put page at (first ++ second) room)
+
+-- and so are any number of them
+pub texts-joined : (page : List ℕ) (at : ℕ) (texts : List (List ℕ)) → at + length (joined texts) ≤ length page
+    → (withTexts page at texts ≡ withText page at (joined texts)) × (textsEnd page at texts ≡ at + length (joined texts))
+texts-joined page at [] room = (sym (text-put page at [] room), omega arith)
+texts-joined page at (text ∷ more) room =
+    let long = length-append text (joined more) in
+    let between = withText page at text in
+    let next = end-put page at text (omega arith) in
+    let rest = texts-joined between (textEnd page at text) more (omega (arith, next, page-long page at text)) in
+    (rest .0 ∙ texts-one page at text (joined more) room, rest .1 ∙ omega (arith, next))
+
+pub line-room : (size at longest : ℕ) → longest ≤ size → lineStart size at longest + longest ≤ size
+line-room size at longest h = go (leb (at + longest) size) refl
+  where
+    go : (t : Bool) → leb (at + longest) size ≡ t → lineStart size at longest + longest ≤ size
+    go true e = rw e (leb-true (at + longest) size e)
+    go false e = rw e (omega arith)

@@ -6,9 +6,9 @@ use lib.ListN.{length, take, drop}
 use denote.Ref.{now}
 use Rattle.basics.proofs.One.{OneAnswer, OneContent, OnePart, one-value}
 use Rattle.io.specs.Digits.{digits, Fewest}
-use Rattle.page.specs.Text.{withText, textEnd}
+use Rattle.page.specs.Text.{withText, textEnd, withTexts, textsEnd, joined, lineStart}
 use Rattle.page.specs.Digits.{decimal, hexadecimal, numberIn}
-use Rattle.page.proofs.Texts.{text-stands, end-put, text-dropped, end-kept, page-long, texts-one}
+use Rattle.page.proofs.Texts.{text-stands, end-put, text-dropped, end-kept, page-long, texts-joined, line-room}
 use Rattle.page.proofs.Numbers.{library-digits, decimal-back, hexadecimal-back}
 use Rattle.page.proofs.put.Kinds as put-kinds
 use Rattle.page.proofs.put.Reads as put-fn
@@ -22,10 +22,22 @@ use Rattle.page.proofs.put_hex.Kinds as put-hex-kinds
 use Rattle.page.proofs.put_hex.Reads as put-hex-fn
 use Rattle.page.proofs.put_hex.Statement as put-hex-statement
 use Rattle.page.proofs.put_hex.Met as put-hex-met
+use Rattle.page.proofs.put_field.Kinds as put-field-kinds
+use Rattle.page.proofs.put_field.Reads as put-field-fn
+use Rattle.page.proofs.put_field.Statement as put-field-statement
+use Rattle.page.proofs.put_field.Met as put-field-met
+use Rattle.page.proofs.put_last.Kinds as put-last-kinds
+use Rattle.page.proofs.put_last.Reads as put-last-fn
+use Rattle.page.proofs.put_last.Statement as put-last-statement
+use Rattle.page.proofs.put_last.Met as put-last-met
 use Rattle.page.proofs.front.Kinds as front-kinds
 use Rattle.page.proofs.front.Reads as front-fn
 use Rattle.page.proofs.front.Statement as front-statement
 use Rattle.page.proofs.front.Met as front-met
+use Rattle.page.proofs.next_line.Kinds as next-line-kinds
+use Rattle.page.proofs.next_line.Reads as next-line-fn
+use Rattle.page.proofs.next_line.Statement as next-line-statement
+use Rattle.page.proofs.next_line.Met as next-line-met
 
 -- Each public function answers, and leaves on the page, what its definition says, for every input. (`statement` is the
 -- contract, as the checker reads it off the source; it asks nothing of the caller.)
@@ -38,8 +50,17 @@ put-number-right = put-number-met.met
 put-hex-right : {M : Type 1} → put-hex-statement.statement M
 put-hex-right = put-hex-met.met
 
+put-field-right : {M : Type 1} → put-field-statement.statement M
+put-field-right = put-field-met.met
+
+put-last-right : {M : Type 1} → put-last-statement.statement M
+put-last-right = put-last-met.met
+
 front-right : {M : Type 1} → front-statement.statement M
 front-right = front-met.met
+
+next-line-right : {M : Type 1} → next-line-statement.statement M
+next-line-right = next-line-met.met
 
 -- Two answers that the promise of a public function allows are equal, and so are two contents of the page. (`Post` is the
 -- function's `ensures`. A front is a part of the caller's own slice; what is decided of it is its bytes.)
@@ -61,8 +82,23 @@ put-hex-unique κs args x y s t p q = one-value (p .0) (q .0)
 put-hex-page-unique : OneContent 1 put-hex-kinds.ps put-hex-kinds.r put-hex-fn.Post (λ κs exit. now (exit .0))
 put-hex-page-unique κs args x y s t p q = one-value (p .1) (q .1)
 
+put-field-unique : OneAnswer 1 put-field-kinds.ps put-field-kinds.r put-field-fn.Post
+put-field-unique κs args x y s t p q = one-value (p .0) (q .0)
+
+put-field-page-unique : OneContent 1 put-field-kinds.ps put-field-kinds.r put-field-fn.Post (λ κs exit. now (exit .0))
+put-field-page-unique κs args x y s t p q = one-value (p .1) (q .1)
+
+put-last-unique : OneAnswer 2 put-last-kinds.ps put-last-kinds.r put-last-fn.Post
+put-last-unique κs args x y s t p q = one-value (p .0) (q .0)
+
+put-last-page-unique : OneContent 2 put-last-kinds.ps put-last-kinds.r put-last-fn.Post (λ κs exit. now (exit .0))
+put-last-page-unique κs args x y s t p q = one-value (p .1) (q .1)
+
 front-unique : OnePart 1 front-kinds.ps front-kinds.r front-fn.Post (λ κs part. now part)
 front-unique κs args x y s t p q = one-value p q
+
+next-line-unique : OneAnswer 1 next-line-kinds.ps next-line-kinds.r next-line-fn.Post
+next-line-unique κs args x y s t p q = one-value p q
 
 -- With room at its place a text stands there, between what stood before and behind it, and the next place is where it ends;
 -- without, the page and the place are as they were. The page has as many bytes as before.
@@ -78,10 +114,14 @@ text-complete page at text none = (text-dropped page at text none, end-kept page
 page-size : (page : List ℕ) (at : ℕ) (text : List ℕ) → length (withText page at text) ≡ length page
 page-size = page-long
 
--- Two texts, the second put where the first ends, stand one behind the other.
-texts-right : (page : List ℕ) (at : ℕ) (first second : List ℕ) → at + length (first ++ second) ≤ length page
-    → withText (withText page at first) (textEnd page at first) second ≡ withText page at (first ++ second)
-texts-right = texts-one
+-- Texts, each put where the one before it ends, stand one behind the other, where there is room for all of them.
+texts-right : (page : List ℕ) (at : ℕ) (texts : List (List ℕ)) → at + length (joined texts) ≤ length page
+    → (withTexts page at texts ≡ withText page at (joined texts)) × (textsEnd page at texts ≡ at + length (joined texts))
+texts-right = texts-joined
+
+-- Where a line begins it has room, if a page has.
+line-right : (size at longest : ℕ) → longest ≤ size → lineStart size at longest + longest ≤ size
+line-right = line-room
 
 -- The digits of a number of 64 bits read as that number, and are as few as hold it: those that the library writes. The two
 -- of a byte read as that byte.

@@ -1,11 +1,17 @@
-// Text on a page, for the programs. A page is filled from its start and written at once. Each function that puts a text
-// takes where it begins and answers where the next one does; a text that the page has no room for is dropped whole.
+// Text on a page, for the programs. A page is filled from its start and written at once, or whenever it is full. Each function
+// that puts a text takes where it begins and answers where the next one does; a text that the page has no room for is dropped
+// whole.
+use libc::STDOUT_FILENO;
 ghost use Prim.Native.Nat.{_+_, _<_};
 ghost use Rattle.page.specs.Digits.{digitOf, decimal, hexadecimal};
-ghost use Rattle.page.specs.Text.{withText, textEnd};
+ghost use Rattle.page.specs.Text.{withText, textEnd, withTexts, textsEnd, field, last, lineStart};
 ghost use lib.Dec.{leb};
-ghost use lib.ListN.{take};
+ghost use lib.ListN.{length, take};
 ghost use mathlib.Core.Path.{_≡_};
+
+// The page of a program that prints a line for each step. A write for each line would take most of the time, and a page for
+// all of them more than 600,000 bytes.
+pub const BLOCK: usize = 4096;
 
 // Whether so many bytes have room at a place. (The sum of the two may be too large for a usize.)
 fn has_room(size: usize, at: usize, more: usize) -> bool
@@ -53,9 +59,40 @@ pub fn put_hex(page: &mut [u8], at: usize, b: u8) -> usize
     put(page, at, &digits)
 }
 
+// A number and the space behind it.
+pub fn put_field(page: &mut [u8], at: usize, v: u64) -> usize
+    ensures { λ r. ⌜ r ≡ textsEnd (now (page .entry)) at (field v) ⌝ }
+    ensures { λ _. ⌜ now (page .exit) ≡ withTexts (now (page .entry)) at (field v) ⌝ }
+{
+    let at = put_number(page, at, v);
+    put(page, at, b" ")
+}
+
+// The end of a line: a word, and the number that goes with it.
+pub fn put_last(page: &mut [u8], at: usize, word: &[u8], v: u64) -> usize
+    ensures { λ r. ⌜ r ≡ textsEnd (now (page .entry)) at (last (now (word .entry)) v) ⌝ }
+    ensures { λ _. ⌜ now (page .exit) ≡ withTexts (now (page .entry)) at (last (now (word .entry)) v) ⌝ }
+{
+    let at = put(page, at, word);
+    let at = put_number(page, at, v);
+    put(page, at, b"\n")
+}
+
 // The first n bytes, or all where there are fewer.
 pub fn front(bytes: &[u8], n: usize) -> &[u8]
     ensures { λ r. ⌜ now r ≡ take n (now (bytes .entry)) ⌝ }
 {
     if bytes.len() < n { bytes } else { &bytes[..n] }
+}
+
+// Where a line of at most so many bytes begins: behind the last one, or, once the page is written, at its start. (No contract
+// can say what is written.)
+pub fn next_line(page: &[u8], at: usize, longest: usize) -> usize
+    ensures { λ r. ⌜ r ≡ lineStart (length (now (page .entry))) at longest ⌝ }
+{
+    if has_room(page.len(), at, longest) {
+        return at;
+    }
+    io::write_all(STDOUT_FILENO, front(page, at));
+    0
 }

@@ -1,15 +1,11 @@
 // A line of the table: a step at which the sent K1 changes, and what is requested from there on (02, e).
 use page::put;
+use page::put_field;
 use page::put_hex;
 use page::put_number;
 
 // The bytes of the longest line, '63 16383 FF SF-H 15' with its end.
 pub(crate) const LONGEST: usize = 20;
-
-fn put_field(page: &mut [u8], at: usize, v: u64) -> usize {
-    let at = put_number(page, at, v);
-    put(page, at, b" ")
-}
 
 // The request by its code, the upper four bits of K1 (01, 'The byte pair'). A captured K1 may have any code.
 fn put_request(page: &mut [u8], at: usize, code: u8) -> usize {

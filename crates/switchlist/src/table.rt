@@ -5,29 +5,12 @@ use crate::line::put_line;
 use book::Contents;
 use book::body;
 use book::read;
-use libc::STDOUT_FILENO;
-use page::front;
+use page::next_line;
 use page::put;
-use page::put_number;
+use page::put_last;
 use switches::Extending;
 use switches::extend;
 ghost use Prim.Native.Nat.{_≤_};
-
-// A book can have more than 16,000 changes. A write for each line would take most of the time, and a page for all lines
-// some 300,000 bytes.
-pub(crate) const ROOM: usize = 4096;
-
-// Where a line begins at the latest, so that the longest has room.
-const LAST: usize = ROOM - LONGEST;
-
-// Where the next line begins: behind the last one, or, once the page is written, at its start.
-fn next_line(page: &[u8], at: usize) -> usize {
-    if at <= LAST {
-        return at;
-    }
-    io::write_all(STDOUT_FILENO, front(page, at));
-    0
-}
 
 // The sent K1, byte 2 of a step's four. A listed step is one that the capture has (`listed-right` of `switches`); the test
 // stands in the place of a proof of that here.
@@ -41,7 +24,7 @@ fn put_changes(page: &mut [u8], start: usize, number: usize, body: &[u8], steps:
     let mut i = 0;
     while i < steps.len() {
         let step = steps[i];
-        at = next_line(page, at);
+        at = next_line(page, at, LONGEST);
         at = put_line(page, at, number, step, sent_at(body, step));
         i += 1;
     }
@@ -77,18 +60,12 @@ fn put_captures(page: &mut [u8], book: &[u8], contents: Contents, table: &mut [u
     at
 }
 
-fn put_refusal(page: &mut [u8], number: u8) -> usize {
-    let at = put(page, 0, b"refused ");
-    let at = put_number(page, at, number as u64);
-    put(page, at, b"\n")
-}
-
 // Answers where the text on the page ends that is not yet written.
 pub(crate) fn put_table(page: &mut [u8], book: &[u8], table: &mut [u16]) -> usize {
     let answer = read(book);
     if answer.refusal == 0 {
         put_captures(page, book, answer.contents, table)
     } else {
-        put_refusal(page, answer.refusal)
+        put_last(page, 0, b"refused ", answer.refusal as u64)
     }
 }

@@ -13,7 +13,7 @@ use std::io;
 const LENGTHS: [(usize, usize); 3] = [(1, 16_384), (4, 4_096), (16, 1_024)];
 const SEED: u64 = 22;
 
-const EXPLAINED: u8 = 1;
+pub const EXPLAINED: u8 = 1;
 
 pub fn rows(library: &impl Door) -> io::Result<Vec<Row>> {
     let mut rows = Vec::new();
@@ -26,7 +26,7 @@ pub fn rows(library: &impl Door) -> io::Result<Vec<Row>> {
 }
 
 /// The sections and captures of each row, and the steps of one of them.
-fn works() -> Vec<(u8, Vec<Capture>, usize)> {
+pub fn works() -> Vec<(u8, Vec<Capture>, usize)> {
     let mut draws = Draws::from_seed(SEED);
     let mut works = Vec::new();
     for (settings, (count, steps)) in SETTINGS
@@ -40,7 +40,7 @@ fn works() -> Vec<(u8, Vec<Capture>, usize)> {
 }
 
 /// How many are explained.
-fn judge(door: &impl Door, captures: &[Capture]) -> usize {
+pub fn judge(door: &impl Door, captures: &[Capture]) -> usize {
     let is_explained = |capture: &&Capture| {
         let Settings { n, mask, w } = capture.settings;
         let mut out = [0; VERDICT];

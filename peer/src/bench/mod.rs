@@ -3,6 +3,7 @@
 
 mod books;
 mod captures;
+mod causes;
 mod clock;
 mod steps;
 mod switches;
@@ -77,7 +78,7 @@ const PREFACE: [&str; 4] = [
     "Rattle is the proved library, Rust this package, both called through the functions of chainplater.h.",
     "Outputs are not cleared between calls. A MB is 1,000,000 bytes of the book; the reader looks at its",
     "contents alone. The ratio is the time of Rattle by that of Rust. In brackets: the lower and the upper",
-    "quarter of the runs.",
+    "quarter of the runs. In the rows beside Rattle's judge its figures stand in the place of Rust's.",
 ];
 
 pub fn write(library: &impl Door, out: &mut impl Write) -> io::Result<()> {
@@ -94,6 +95,7 @@ pub fn write(library: &impl Door, out: &mut impl Write) -> io::Result<()> {
     out.flush()?;
     write_rows(out, steps::rows(library)?)?;
     write_rows(out, captures::rows(library)?)?;
+    write_rows(out, causes::rows(library)?)?;
     write_rows(out, switches::rows(library)?)?;
     write_rows(out, books::rows(library)?)
 }
@@ -194,11 +196,13 @@ mod tests {
     }
 
     /// What is timed is what it is meant to be: walks that no refusal stops, captures
-    /// that are explained, and lists with as many changes as their rows say.
+    /// that are explained, causes that send them, and lists with as many changes as their
+    /// rows say.
     #[test]
     fn the_work_is_not_refused() {
         steps::check(&Peer);
         captures::check(&Peer);
+        causes::check(&Peer);
         switches::check(&Peer);
         books::check(&Peer);
     }

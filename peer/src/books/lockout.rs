@@ -28,6 +28,21 @@ fn told() -> Vec<Told> {
     scenes().iter().flat_map(Scene::tellings).collect()
 }
 
+/// A capture of any settings in which LO covers so many steps behind the first, and a step
+/// behind these shows whether section 0 failed in one of them.
+pub fn draw(draws: &mut Draws, covered: usize) -> Capture {
+    let settings = runs::draw_settings(draws);
+    let received = draws.pick(&pairs::telling(settings.n));
+    let scene = Scene {
+        settings,
+        received,
+        covered,
+        failed: None,
+    };
+    let shown = scene.shown(draws.pick(&[received, IDLE]));
+    scene.telling(&[shown], None).capture
+}
+
 /// Runs under causes that keep LO up, and the same with one pair replaced.
 fn drawn() -> Vec<Capture> {
     let mut draws = Draws::from_seed(SEED);
@@ -127,12 +142,27 @@ impl Scene {
 #[cfg(test)]
 mod tests {
     use super::*;
+    use crate::judge::Verdict;
 
     #[test]
     fn the_judge_finds_what_is_known_of_each_telling() {
         for told in told() {
             assert_eq!(told.capture.judged(), told.verdict(), "{:?}", told.capture);
         }
+    }
+
+    #[test]
+    fn drawn_captures_show_either_pair() {
+        let mut draws = Draws::from_seed(SEED);
+        let mut failed = 0;
+        for covered in 0..200 {
+            let capture = draw(&mut draws, covered % 5);
+            let steps = covered % 5 + 2;
+            assert_eq!(capture.judged(), Verdict::Explained(steps), "{capture:?}");
+            let shown = capture.settings.shown(IDLE, None);
+            failed += usize::from(capture.rows.last() == Some(&shown));
+        }
+        assert!((50..150).contains(&failed), "{failed}");
     }
 
     /// Or what is wrong in the tellings would not be.

@@ -5,22 +5,23 @@ pub mod capture;
 pub mod changes;
 mod commands;
 pub mod damage;
-mod lockout;
+pub mod lockout;
 pub mod pairs;
 pub mod runs;
 mod steps;
 mod unfit;
-mod waits;
+pub mod waits;
 
 use crate::judge::table::{Line, Table};
 use crate::judge::Verdict;
-use crate::programs::{group, Comparison, Group, Kind, Reading};
+use crate::programs::{by_bytes, group, Comparison, Group, Kind, Reading};
 use capture::bind;
 
 pub const COMPARISON: Comparison = Comparison {
     program: "target/bin/judge",
     groups: &GROUPS,
     read: |book| Reading::of(Table::of(book), kind),
+    hold: by_bytes,
     lines: "captures",
     // By the order.
     least: (20_000, "are asked for"),
@@ -43,7 +44,7 @@ const EXPLAINED: &[Kind] = &[Kind::Explained];
 const BOTH: &[Kind] = &[Kind::Explained, Kind::Unexplained];
 const ALL: &[Kind] = &[Kind::Explained, Kind::Unexplained, Kind::RefusedBook];
 
-const GROUPS: [Group; 12] = [
+pub const GROUPS: [Group; 12] = [
     group("runs", EXPLAINED, || bind(&runs::captures())),
     group("flipped", BOTH, || bind(&changes::flipped())),
     group("cut", BOTH, || bind(&changes::cut())),

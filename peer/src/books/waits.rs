@@ -3,6 +3,8 @@
 
 use super::capture::{row, Capture, Settings, Told};
 use super::pairs::{alarmed, degrade, fail, said, FAILED, IDLE, LOCKOUT};
+use super::runs;
+use crate::draws::Draws;
 use crate::judge::Row;
 use crate::pair::Request;
 
@@ -13,6 +15,30 @@ const LONG_WAITS: [u16; 4] = [255, 256, 300, 16_000];
 
 pub fn captures() -> Vec<Capture> {
     Told::captures(told())
+}
+
+/// A capture of any group in which a section goes bad and is waited for, so many times. A
+/// wait is left when it has run out or, by a clear, before that.
+pub fn draw(draws: &mut Draws, times: usize) -> Capture {
+    let settings = Settings {
+        w: draws.pick(&[1, 2, 3, 6, 10]),
+        ..runs::draw_settings(draws)
+    };
+    let channel = 1 + draws.byte_below(settings.n);
+    let section = Section {
+        settings,
+        channel,
+        high: settings.mask >> (channel - 1) & 1 == 1,
+    };
+    let wait = section.wait();
+    let waited = (0..times).flat_map(|_| {
+        let fault = draws.pick(&[fail, degrade]);
+        let length = 1 + draws.place(wait);
+        let mut rows = section.waited(fault(section.high), draws.pick(&[length, wait]));
+        rows.push(section.answered(Request::Nothing));
+        rows
+    });
+    Capture::new(settings, waited.collect::<Vec<Row>>())
 }
 
 fn told() -> Vec<Told> {
@@ -177,6 +203,7 @@ impl Section {
 #[cfg(test)]
 mod tests {
     use super::*;
+    use crate::judge::Verdict;
 
     #[test]
     fn the_judge_finds_what_is_known_of_each_wait() {
@@ -185,6 +212,17 @@ mod tests {
             let shown = &rows[..rows.len().min(20)];
             let verdict = told.capture.judged();
             assert_eq!(verdict, told.verdict(), "{settings:?} {shown:02X?}");
+        }
+    }
+
+    #[test]
+    fn drawn_waits_are_explained() {
+        let mut draws = Draws::from_seed(1);
+        for times in 0..100 {
+            let capture = draw(&mut draws, times % 5);
+            let steps = capture.rows.len();
+            assert!(steps >= times % 5 * 3);
+            assert_eq!(capture.judged(), Verdict::Explained(steps), "{capture:?}");
         }
     }
 

@@ -15,8 +15,8 @@ use crate::judge::judge;
 pub const PARTS: usize = 200;
 const CAPTURES: usize = 1_000;
 /// One more than the steps of most captures can be.
-const SHORT_BELOW: usize = 41;
-const LONGEST: usize = MOST_BYTES / STEP_BYTES;
+pub const SHORT_BELOW: usize = 41;
+pub const LONGEST: usize = MOST_BYTES / STEP_BYTES;
 
 /// What is judged by brute force as well: captures of few steps in the groups of
 /// which that judge tries every set of conditions, and some in the others.
@@ -111,21 +111,35 @@ fn count([kind, high, low]: [u8; VERDICT], capture: &[u8], tally: &mut Tally) {
 }
 
 fn draw(bits: &mut Bits, draws: &mut Draws) -> (Settings, Vec<u8>) {
-    let steps = bits.place(SHORT_BELOW);
-    let habit = bits.pick(&[COMMON, COMMON, LOCKED]).with_alarms();
-    let mut run = runs::draw_of_any_settings(draws, habit, steps);
+    let mut run = draw_run(bits, draws);
     match bits.below(16) {
         0..6 => {}
-        6..10 => change(bits, draws, &mut run),
-        10..12 => run.rows.fill_with(|| draw_row(draws, run.settings.n)),
-        12 => bits.fill(run.rows.as_flattened_mut()),
-        13 => run.settings = draw_settings(bits, run.settings),
+        sort @ 6..14 => alter(bits, draws, &mut run, sort - 6),
         _ => return draw_refused(bits, run),
     }
     flat(run)
 }
 
-fn flat(run: Capture) -> (Settings, Vec<u8>) {
+pub fn draw_run(bits: &mut Bits, draws: &mut Draws) -> Capture {
+    let steps = bits.place(SHORT_BELOW);
+    let habit = bits.pick(&[COMMON, COMMON, LOCKED]).with_alarms();
+    runs::draw_of_any_settings(draws, habit, steps)
+}
+
+/// How many sorts of alterations there are, some of them under several numbers.
+pub const ALTERATIONS: u32 = 8;
+
+/// Many of what is altered have no explanation any more.
+pub fn alter(bits: &mut Bits, draws: &mut Draws, run: &mut Capture, sort: u32) {
+    match sort {
+        0..4 => change(bits, draws, run),
+        4..6 => run.rows.fill_with(|| draw_row(draws, run.settings.n)),
+        6 => bits.fill(run.rows.as_flattened_mut()),
+        _ => run.settings = draw_settings(bits, run.settings),
+    }
+}
+
+pub fn flat(run: Capture) -> (Settings, Vec<u8>) {
     (run.settings, run.rows.into_flattened())
 }
 

@@ -1,11 +1,9 @@
 //! Memory that is lent to a call, with guards on both sides of it.
 
-use crate::draws::Bits;
+use crate::draws::{Bits, Word};
 use std::borrow::Cow;
 
 const GUARD: usize = 16;
-/// As many bytes, in entries of a list.
-const GUARD_ENTRIES: usize = GUARD / size_of::<u16>();
 
 /// All that one call is lent.
 pub trait Memory: Clone + PartialEq {
@@ -94,41 +92,43 @@ impl LentSlice {
 /// The same for a list of numbers, with entries for guards. It need not start where
 /// more than one entry would suit, so the guard before it is of a length that is drawn.
 #[derive(Clone, PartialEq, Eq)]
-pub struct LentList {
-    words: Vec<u16>,
+pub struct LentList<T> {
+    words: Vec<T>,
     start: usize,
 }
 
-impl LentList {
-    pub fn new(bits: &mut Bits, entries: &[u16]) -> Self {
-        let start = GUARD_ENTRIES + bits.place(GUARD_ENTRIES);
-        let [before, behind] = [start, GUARD_ENTRIES].map(|length| bits.words(length));
+impl<T: Word> LentList<T> {
+    /// As many bytes as any guard has, in entries.
+    const GUARD: usize = GUARD / size_of::<T>();
+
+    pub fn new(bits: &mut Bits, entries: &[T]) -> Self {
+        let start = Self::GUARD + bits.place(Self::GUARD);
+        let [before, behind] = [start, Self::GUARD].map(|length| bits.words(length));
         Self {
             words: [&before, entries, &behind].concat(),
             start,
         }
     }
 
-    pub fn entries(&self) -> &[u16] {
-        &self.words[self.start..self.words.len() - GUARD_ENTRIES]
+    pub fn entries(&self) -> &[T] {
+        &self.words[self.start..self.words.len() - Self::GUARD]
     }
 
-    pub fn entries_mut(&mut self) -> &mut [u16] {
-        let end = self.words.len() - GUARD_ENTRIES;
+    pub fn entries_mut(&mut self) -> &mut [T] {
+        let end = self.words.len() - Self::GUARD;
         &mut self.words[self.start..end]
     }
 
-    /// Each entry with its upper byte first, as one reads numbers.
     pub fn part(&self) -> Part<'_> {
         let (before, rest) = self.words.split_at(self.start);
-        let (entries, behind) = rest.split_at(rest.len() - GUARD_ENTRIES);
+        let (entries, behind) = rest.split_at(rest.len() - Self::GUARD);
         [before, entries, behind]
-            .map(|words| words.iter().flat_map(|word| word.to_be_bytes()).collect())
+            .map(|words| words.iter().flat_map(|word| word.bytes()).collect())
             .map(Cow::Owned)
     }
 
     #[cfg(test)]
-    pub fn with_guards(&mut self) -> &mut [u16] {
+    pub fn with_guards(&mut self) -> &mut [T] {
         &mut self.words
     }
 }
@@ -142,6 +142,8 @@ impl<const N: usize> Memory for Lent<N> {
 #[cfg(test)]
 mod tests {
     use super::*;
+    use std::collections::BTreeSet;
+    use std::fmt::Debug;
 
     #[test]
     fn the_guards_stand_right_beside_what_is_lent() {
@@ -155,21 +157,28 @@ mod tests {
         assert_eq!(LentSlice::drawn(&mut bits, 5).bytes_mut().len(), 5);
     }
 
-    #[test]
-    fn lists_start_at_any_entry_between_their_guards() {
+    /// The same entries, which are those bytes, again and again.
+    fn assert_between_guards<T: Word + Debug>(entries: [T; 2], expected: &[u8]) {
         let mut bits = Bits::from_seeds(1, 1);
-        let mut starts = [false; GUARD_ENTRIES];
+        let width = size_of::<T>();
+        let mut starts = BTreeSet::new();
         for _ in 0..100 {
-            let mut list = LentList::new(&mut bits, &[1, 0x203]);
-            assert_eq!(list.entries(), [1, 0x203]);
+            let mut list = LentList::new(&mut bits, &entries);
+            assert_eq!(list.entries(), entries);
             assert_eq!(list.entries_mut().len(), 2);
             let [before, entries, behind] = list.part();
-            assert_eq!(entries[..], [0, 1, 2, 3]);
+            assert_eq!(&entries[..], expected);
             assert!(before.len() >= 16 && behind.len() == 16);
-            starts[before.len() / 2 % GUARD_ENTRIES] = true;
+            starts.insert(before.len() / width % (16 / width));
         }
-        assert_eq!(starts, [true; GUARD_ENTRIES]);
-        assert!(LentList::new(&mut bits, &[]).entries().is_empty());
+        assert!(starts.into_iter().eq(0..16 / width));
+        assert!(LentList::<T>::new(&mut bits, &[]).entries().is_empty());
+    }
+
+    #[test]
+    fn lists_start_at_any_entry_between_their_guards() {
+        assert_between_guards([1u16, 0x203], &[0, 1, 2, 3]);
+        assert_between_guards([1u32, 0x0405_0607], &[0, 0, 0, 1, 4, 5, 6, 7]);
     }
 
     /// Zeros are what a call writes most often.

@@ -1,12 +1,15 @@
 //! The comparison of `peer compare`: the library and this reading are called with
 //! the same arguments, and lent memory of the same content; what they answer and
-//! what they leave in it is compared, byte for byte.
+//! what they leave in it is compared, byte for byte. The words of causes alone need not
+//! be the same (paper: 02, a), and are run through the controller of this reading.
 
 mod books;
 mod captures;
+mod causes;
 mod coder;
 mod crew;
 mod drawn_book;
+mod faults;
 mod handed;
 mod lent;
 mod report;
@@ -29,13 +32,28 @@ struct Subject {
     least: u64,
     /// The refusals, 0 for none, that come up: all of these, and no others.
     refusals: &'static [usize],
-    /// Names of what is counted besides; each comes up.
-    kinds: &'static [&'static str],
+    /// What is counted besides.
+    kinds: &'static [Due],
     parts: usize,
     compare: fn(&dyn Door, usize) -> Tally,
 }
 
-const SUBJECTS: [Subject; 15] = [
+/// A name, and how often at least what it stands for comes up. Without a name nothing is
+/// due.
+type Due = (&'static str, u64);
+
+/// Each of those names comes up.
+const fn once<const N: usize>(names: [&'static str; N]) -> [Due; N] {
+    let mut due = [("", 1); N];
+    let mut place = 0;
+    while place < N {
+        due[place].0 = names[place];
+        place += 1;
+    }
+    due
+}
+
+const SUBJECTS: [Subject; 18] = [
     Subject {
         name: "fresh",
         least: 1 << 24,
@@ -48,7 +66,7 @@ const SUBJECTS: [Subject; 15] = [
         name: "k1, and decoded for every n",
         least: 14 * 256 * 2,
         refusals: &[0],
-        kinds: &values::KINDS,
+        kinds: &once(values::KINDS),
         parts: values::PARTS,
         compare: values::compare,
     },
@@ -56,7 +74,7 @@ const SUBJECTS: [Subject; 15] = [
         name: "decode",
         least: 1 << 24,
         refusals: &[0, 1],
-        kinds: &coder::DECODED_KINDS,
+        kinds: &once(coder::DECODED_KINDS),
         parts: coder::PARTS_BY_SIZE,
         compare: coder::decode,
     },
@@ -80,7 +98,7 @@ const SUBJECTS: [Subject; 15] = [
         name: "step, drawn",
         least: 5_000_000,
         refusals: &[0, 1, 2, 3, 4, 5, 6, 7],
-        kinds: &steps::DRAWN_KINDS,
+        kinds: &once(steps::DRAWN_KINDS),
         parts: steps::PARTS,
         compare: steps::drawn,
     },
@@ -88,7 +106,7 @@ const SUBJECTS: [Subject; 15] = [
         name: "step, walks",
         least: 5_000_000,
         refusals: &[0],
-        kinds: &steps::WALKED_KINDS,
+        kinds: &once(steps::WALKED_KINDS),
         parts: steps::PARTS,
         compare: steps::walks,
     },
@@ -96,15 +114,39 @@ const SUBJECTS: [Subject; 15] = [
         name: "judge",
         least: 200_000,
         refusals: &[0, 1, 2, 8, 9],
-        kinds: &captures::KINDS,
+        kinds: &once(captures::KINDS),
         parts: captures::PARTS,
         compare: captures::compare,
+    },
+    Subject {
+        name: "causes, drawn",
+        least: 150_000,
+        refusals: &[0],
+        kinds: &causes::DRAWN_KINDS,
+        parts: causes::DRAWN_PARTS,
+        compare: causes::drawn,
+    },
+    Subject {
+        name: "causes, of the books",
+        least: 25_000,
+        refusals: &[0],
+        kinds: &causes::BOOK_KINDS,
+        parts: causes::BOOK_PARTS,
+        compare: causes::of_books,
+    },
+    Subject {
+        name: "causes, refused",
+        least: 50_000,
+        refusals: &[0, 1, 2, 8, 9, 11],
+        kinds: &causes::REFUSED_KINDS,
+        parts: causes::REFUSED_PARTS,
+        compare: causes::refused,
     },
     Subject {
         name: "switches, small",
         least: 500_000,
         refusals: &[0, 12, 13, 16],
-        kinds: &switches::SMALL_EXTENSIONS,
+        kinds: &once(switches::SMALL_EXTENSIONS),
         parts: switches::SMALL_PARTS,
         compare: switches::small_extensions,
     },
@@ -112,7 +154,7 @@ const SUBJECTS: [Subject; 15] = [
         name: "switches, in turn",
         least: 40_000,
         refusals: &[0],
-        kinds: &switches::EXTENSIONS_IN_TURN,
+        kinds: &once(switches::EXTENSIONS_IN_TURN),
         parts: switches::TURN_PARTS,
         compare: switches::in_turn,
     },
@@ -120,7 +162,7 @@ const SUBJECTS: [Subject; 15] = [
         name: "switches, drawn",
         least: 150_000,
         refusals: &[0, 8, 9, 12, 13, 16],
-        kinds: &switches::DRAWN_EXTENSIONS,
+        kinds: &once(switches::DRAWN_EXTENSIONS),
         parts: switches::DRAWN_PARTS,
         compare: switches::drawn_extensions,
     },
@@ -128,7 +170,7 @@ const SUBJECTS: [Subject; 15] = [
         name: "last change, small",
         least: 200_000,
         refusals: &[0, 13, 16],
-        kinds: &switches::SMALL_LOOKUPS,
+        kinds: &once(switches::SMALL_LOOKUPS),
         parts: switches::SMALL_PARTS,
         compare: switches::small_lookups,
     },
@@ -136,7 +178,7 @@ const SUBJECTS: [Subject; 15] = [
         name: "last change, drawn",
         least: 200_000,
         refusals: &[0, 8, 9, 13, 16],
-        kinds: &switches::DRAWN_LOOKUPS,
+        kinds: &once(switches::DRAWN_LOOKUPS),
         parts: switches::DRAWN_PARTS,
         compare: switches::drawn_lookups,
     },
@@ -144,7 +186,7 @@ const SUBJECTS: [Subject; 15] = [
         name: "read, and written again",
         least: 100_000,
         refusals: &[0, 20, 21, 22, 23, 24, 25, 26, 27, 28, 31, 32],
-        kinds: &books::READ_KINDS,
+        kinds: &once(books::READ_KINDS),
         parts: books::PARTS,
         compare: books::readings,
     },
@@ -152,7 +194,7 @@ const SUBJECTS: [Subject; 15] = [
         name: "write, and read again",
         least: 100_000,
         refusals: &[0, 20, 23, 29, 30, 31, 32],
-        kinds: &books::WRITE_KINDS,
+        kinds: &once(books::WRITE_KINDS),
         parts: books::PARTS,
         compare: books::writings,
     },

@@ -1,7 +1,7 @@
 //! What the comparison comes to.
 
 use super::tally::Tally;
-use super::Subject;
+use super::{Due, Subject};
 use std::io::{self, Write};
 
 /// Differences of one subject that are told in full.
@@ -49,7 +49,7 @@ fn write_counts(out: &mut impl Write, subject: &Subject, tally: &Tally) -> io::R
         .collect();
     writeln!(out, "  by refusal  {}", refusals.join(", "))?;
     let kinds: Vec<String> = kinds(subject, tally)
-        .map(|(name, count)| format!("{name}: {count}"))
+        .map(|((name, _), count)| format!("{name}: {count}"))
         .collect();
     if kinds.is_empty() {
         return Ok(());
@@ -57,9 +57,9 @@ fn write_counts(out: &mut impl Write, subject: &Subject, tally: &Tally) -> io::R
     writeln!(out, "  of these    {}", kinds.join(", "))
 }
 
-fn kinds(subject: &Subject, tally: &Tally) -> impl Iterator<Item = (&'static str, u64)> {
+fn kinds(subject: &Subject, tally: &Tally) -> impl Iterator<Item = (Due, u64)> {
     let kinds = subject.kinds.iter().copied().zip(tally.kinds);
-    kinds.filter(|(name, _)| !name.is_empty())
+    kinds.filter(|((name, _), _)| !name.is_empty())
 }
 
 /// A comparison is worth no more than what it comes by, so that is checked
@@ -78,8 +78,11 @@ fn shortcomings(subjects: &[Subject], tallies: &[Tally]) -> Vec<String> {
             let due = subject.refusals;
             found.push(format!("{name}: the refusals are {shown:?}, not {due:?}"));
         }
-        let missing = kinds(subject, tally).filter(|&(_, count)| count == 0);
-        found.extend(missing.map(|(kind, _)| format!("{name}: none of the kind {kind}")));
+        let missing = kinds(subject, tally).filter(|&((_, least), count)| count < least);
+        found.extend(missing.map(|((kind, least), count)| match count {
+            0 => format!("{name}: none of the kind {kind}"),
+            _ => format!("{name}: {count} of the kind {kind}, {least} are due"),
+        }));
     }
     found
 }

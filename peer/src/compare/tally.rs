@@ -3,12 +3,12 @@
 use super::lent::{Memory, Part};
 use crate::door::{Door, Peer};
 use crate::draws::Bits;
-use std::fmt::Write;
+use std::fmt::{Debug, Write};
 use std::hint::black_box;
 
 /// One more than the greatest refusal.
 const REFUSALS: usize = 33;
-const MOST_KINDS: usize = 19;
+const MOST_KINDS: usize = 34;
 /// Differences of one part that are told in full.
 const MOST_TOLD: usize = 3;
 /// Bytes of a part of memory that are told.
@@ -59,7 +59,7 @@ pub struct Tally {
     pub told: Vec<String>,
 }
 
-/// In full, because only shorter arrays than that of the refusals have a default.
+/// In full, because only shorter arrays than those have a default.
 impl Default for Tally {
     fn default() -> Self {
         Self {
@@ -108,7 +108,7 @@ impl Tally {
 /// Calls both sides, and counts what comes of it. What is lent besides the arguments,
 /// outputs and guards, is drawn.
 pub struct Caller<'a> {
-    library: &'a dyn Door,
+    pub library: &'a dyn Door,
     pub bits: Bits,
     pub tally: Tally,
 }
@@ -128,9 +128,27 @@ impl<'a> Caller<'a> {
         call: impl Fn(&dyn Door, &mut M) -> u8,
         given: impl FnOnce() -> String,
     ) -> Both<M> {
-        let both = both(self.library, memory, call);
+        let both = self.lend(memory, call);
         self.tally.add(&both, given);
         both
+    }
+
+    /// Calls both sides and counts nothing, where what they answer need not be the same.
+    pub fn lend<M: Memory>(&self, memory: &M, call: impl Fn(&dyn Door, &mut M) -> u8) -> Both<M> {
+        both(self.library, memory, call)
+    }
+
+    /// Holds what a side answered against what the paper says.
+    pub fn hold<T: PartialEq + Debug>(
+        &mut self,
+        answered: T,
+        expected: T,
+        told: impl Fn() -> String,
+    ) {
+        if answered != expected {
+            let told = || format!("{}: not what the paper says: {answered:?}", told());
+            self.tally.differ(told);
+        }
     }
 }
 

@@ -1,16 +1,17 @@
 mod books;
+mod causes;
 mod switches;
 
 use super::*;
 use crate::book::STEP_BYTES;
 use crate::books::pairs::unheard;
 use crate::door::{
-    Peer, CHANGE, CHANGES, CONTENTS, DECODED, ENCODED, K1, RECORD, SIZE, STEP, VERDICT,
+    Peer, Tables, CHANGE, CHANGES, CONTENTS, DECODED, ENCODED, K1, RECORD, SIZE, STEP, VERDICT,
 };
 use std::io::Write;
 
 /// This reading in the place of the library, with one function that is wrong, with no
-/// notion of alarms, or with another way with books or with lists.
+/// notion of alarms, or with another way with books, with lists or with causes.
 struct Fake {
     wrong: &'static str,
 }
@@ -98,6 +99,21 @@ impl Door for Fake {
         refusal
     }
 
+    fn causes(
+        &self,
+        n: u8,
+        mask: u16,
+        wait: u16,
+        capture: &[u8],
+        tables: Tables,
+        out: &mut [u8; VERDICT],
+    ) -> u8 {
+        let (numbers, heard) = ((n, mask, wait), self.hear_all(capture));
+        let refusal = causes::fill(self.wrong, numbers, &heard, tables, out);
+        self.spoil("causes", out);
+        refusal
+    }
+
     fn switches(
         &self,
         capture: &[u8],
@@ -154,6 +170,29 @@ fn all_of(subject: &Subject) -> Tally {
     tally
 }
 
+/// Those of a few parts of each subject together, since a rare fault need not be in one.
+fn differences_of(subjects: &[&str], wrong: &'static str) -> u64 {
+    let parts = subjects
+        .iter()
+        .flat_map(|name| (0..8).map(|part| (subject(name), part)));
+    parts
+        .map(|(subject, part)| (subject.compare)(&Fake { wrong }, part).differences)
+        .sum()
+}
+
+/// All parts of all of them, so that the counts are those of `peer compare`: each comes
+/// by its refusals and kinds, and by the calls that are due.
+fn assert_come_by_what_they_are_for(names: &[&str]) {
+    let named = |subject: &&Subject| names.contains(&subject.name);
+    for subject in SUBJECTS.iter().filter(named) {
+        let mut text = Vec::new();
+        let (subjects, tallies) = (std::slice::from_ref(subject), [all_of(subject)]);
+        report::write(&mut text, subjects, &tallies).expect("memory takes every write");
+        let text = String::from_utf8_lossy(&text);
+        assert!(report::is_clean(subjects, &tallies), "{text}");
+    }
+}
+
 /// Whether a difference is told in which this stands.
 fn tells(tally: &Tally, text: &str) -> bool {
     tally.told.iter().any(|told| told.contains(text))
@@ -172,6 +211,7 @@ fn a_wrong_byte_of_each_function_is_noticed() {
         "decode",
         "encode",
         "judge",
+        "causes",
         "switches",
         "last change",
         "read",
@@ -221,7 +261,7 @@ fn values_and_decoder_are_held_against_each_other() {
 }
 
 /// The subjects in which pairs are received.
-const RECEIVING: [&str; 4] = ["decode", "step, drawn", "step, walks", "judge"];
+const RECEIVING: [&str; 5] = ["decode", "step, drawn", "step, walks", "judge", "causes"];
 
 #[test]
 fn a_library_that_hears_no_alarms_is_noticed() {
@@ -235,7 +275,7 @@ fn a_library_that_hears_no_alarms_is_noticed() {
 fn alarms(name: &str, tally: &Tally) -> Vec<u64> {
     let kinds = subject(name).kinds.iter().zip(tally.kinds);
     kinds
-        .filter(|(kind, _)| kind.contains("alarm"))
+        .filter(|((kind, _), _)| kind.contains("alarm"))
         .map(|(_, count)| count)
         .collect()
 }
@@ -332,6 +372,7 @@ fn as_many_calls_are_due_as_the_order_asks_for() {
     assert_eq!(due("decode"), 256 * 256 * 256);
     assert!(due("encode") >= 6 * 256 * 256 * 256 * 2);
     assert!(due("judge") >= 200_000);
+    assert_eq!(subject("causes, drawn").kinds[0], ("explained", 100_000));
     assert!(due("switches") >= 600_000 && due("last change") >= 400_000);
     assert!(due("read") >= 100_000 && due("write") >= 100_000);
 }

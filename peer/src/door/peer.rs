@@ -1,8 +1,11 @@
 //! This reading behind the door. None of its functions is inlined, so that to
 //! call it costs a call, as it does to call the library.
 
-use super::{Door, CHANGE, CHANGES, CONTENTS, DECODED, ENCODED, K1, RECORD, SIZE, STEP, VERDICT};
+use super::{
+    Door, Tables, CHANGE, CHANGES, CONTENTS, DECODED, ENCODED, K1, RECORD, SIZE, STEP, VERDICT,
+};
 use crate::book::{self, Contents, Entry, ENTRY_BYTES};
+use crate::causes::fill::fill;
 use crate::controller::{self, Answer, Record};
 use crate::judge::{scan, Verdict};
 use crate::pair::{self, values, Received};
@@ -81,6 +84,26 @@ impl Door for Peer {
     #[inline(never)]
     fn judge(&self, n: u8, mask: u16, wait: u16, capture: &[u8], out: &mut [u8; VERDICT]) -> u8 {
         let (refusal, verdict) = verdict_bytes(scan::judge(n, mask, wait, capture));
+        *out = verdict;
+        refusal
+    }
+
+    #[inline(never)]
+    fn causes(
+        &self,
+        n: u8,
+        mask: u16,
+        wait: u16,
+        capture: &[u8],
+        tables: Tables,
+        out: &mut [u8; VERDICT],
+    ) -> u8 {
+        let Tables {
+            conditions,
+            commands,
+        } = tables;
+        let filled = fill(n, mask, wait, capture, conditions, commands);
+        let (refusal, verdict) = verdict_bytes(filled);
         *out = verdict;
         refusal
     }

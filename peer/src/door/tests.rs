@@ -147,6 +147,49 @@ fn verdicts_are_a_kind_and_a_number() {
     }
 }
 
+/// The first capture of the paper's book, and more of it than is explained: the words of
+/// the steps are numbers of this machine, and nothing else is written.
+#[test]
+fn causes_are_words_and_a_verdict() {
+    let capture = &PAPER_BOOK[26..38];
+    let longer = [capture, &[0x22, 0x28, 0xA2, 0x08]].concat();
+    const EMPTY: (u32, u16) = (0xEEEE_EEEE, 0xEEEE);
+    let found = (
+        [0b01_00_00, 0b01_00_00, 0, EMPTY.0, EMPTY.0],
+        [0, 0, 0, EMPTY.1, EMPTY.1],
+    );
+    let untouched = ([EMPTY.0; 5], [EMPTY.1; 5]);
+    for (n, mask, capture, rooms, refusal, left, verdict) in [
+        (2, 0, capture, [5, 5], 0, found, [1, 0, 3]),
+        (2, 0, capture, [3, 3], 0, found, [1, 0, 3]),
+        (2, 0, &longer, [4, 5], 0, untouched, [2, 0, 3]),
+        (2, 0, &longer, [3, 5], 11, untouched, [0; 3]),
+        (2, 0, &longer, [5, 3], 11, untouched, [0; 3]),
+        (2, 0, &longer[..13], [0, 0], 8, untouched, [0; 3]),
+        (2, 4, &longer[..13], [0, 0], 2, untouched, [0; 3]),
+        (0, 4, &longer[..13], [0, 0], 1, untouched, [0; 3]),
+    ] {
+        let (mut conditions, mut commands) = untouched;
+        let tables = Tables {
+            conditions: &mut conditions[..rooms[0]],
+            commands: &mut commands[..rooms[1]],
+        };
+        let mut out = [FILL; VERDICT];
+        let answer = Peer.causes(n, mask, 3, capture, tables, &mut out);
+        assert_eq!((answer, out), (refusal, verdict), "{n} {mask} {rooms:?}");
+        assert_eq!((conditions, commands), left, "{n} {mask} {rooms:?}");
+    }
+    // FS 1 is held, and cleared for a fail of section 2.
+    let capture = [0x00, 0x08, 0xE1, 0x08, 0x00, 0x08, 0xC2, 0x08];
+    let (mut conditions, mut commands) = ([0; 2], [0; 2]);
+    let tables = Tables {
+        conditions: &mut conditions,
+        commands: &mut commands,
+    };
+    assert_eq!(Peer.causes(2, 0, 3, &capture, tables, &mut [0; VERDICT]), 0);
+    assert_eq!((conditions, commands), ([0, 0b10_00_00], [0x0301, 0x0100]));
+}
+
 /// The captures of the paper's book: the number of changes stands in the output with its
 /// upper byte first, and a table has entries of this machine.
 #[test]

@@ -32,7 +32,7 @@ const PROTECTION: u16 = 1;
 
 /// For each K1 what it is worth against another: greater is better. The rank
 /// decides, then the lower channel (rule 4). RR and NR, which never win, have 0.
-static WORTH: [u8; 256] = worths();
+pub static WORTH: [u8; 256] = worths();
 
 const fn worths() -> [u8; 256] {
     let mut worths = [0; 256];
@@ -44,7 +44,7 @@ const fn worths() -> [u8; 256] {
     worths
 }
 
-const fn worth(code: u8, channel: u8) -> u8 {
+pub const fn worth(code: u8, channel: u8) -> u8 {
     let rank = match (code, channel) {
         (0b1111, _) => 10,
         (0b1101, 0) => 9,
@@ -66,7 +66,7 @@ pub fn judge(n: u8, mask: u16, wait: u16, capture: &[u8]) -> Result<Verdict, u8>
     Ok(scan(start, rows))
 }
 
-fn scan(start: Record, rows: &[Row]) -> Verdict {
+pub fn scan(start: Record, rows: &[Row]) -> Verdict {
     let mut line = Line::new(start);
     match rows.iter().position(|&row| !line.explains(row)) {
         Some(step) => Verdict::Unexplained(step),
@@ -115,39 +115,84 @@ impl K1Set {
     }
 }
 
-/// What the rows so far leave open.
-struct Line {
+/// What was received, as far as an end that has heard it may still go by it.
+pub struct Heard {
     n: u8,
+    usable: K1Set,
+    /// The K1 of the last usable pair. Its K2 shows in nothing that is sent.
+    pub k1: u8,
+    /// That pair may be the accepted one.
+    pub kept: bool,
+}
+
+impl Heard {
+    pub fn new(start: Record) -> Self {
+        let n = start.n;
+        Self {
+            n,
+            usable: K1Set::usable(sections_of(n)),
+            k1: 0x00,
+            kept: true,
+        }
+    }
+
+    /// Rule 1, for a section 0 that has not failed. Answers whether the pair is usable.
+    #[inline(always)]
+    pub fn receive(&mut self, k1: u8, k2: u8) -> bool {
+        let line = k2 & 0b1111;
+        let usable = ((line == GOOD_LINE) | (line == REMOTE_DEFECT))
+            & (k2 >> 4 <= self.n)
+            & self.usable.has(k1);
+        self.k1 = choose(usable, k1, self.k1);
+        self.kept |= usable;
+        usable
+    }
+
+    /// Rules 4 and 6, with the received pair accepted.
+    #[inline(always)]
+    pub fn is_sent(&self, sent: u8, sent_k2: u8, reverse: bool) -> bool {
+        let channel = self.k1 & 0b1111;
+        let same = channel == sent & 0b1111;
+        let bridge = choose(same | (sent == 0), channel, 0);
+        let better = WORTH[usize::from(self.k1)] > WORTH[usize::from(sent)];
+        (better == reverse) & (!reverse | same) & (sent_k2 == bridge << 4 | GOOD_LINE)
+    }
+}
+
+/// Bit c for each section c.
+fn sections_of(n: u8) -> u16 {
+    ((1u32 << (n + 1)) - 2) as u16
+}
+
+/// An alarm is a failure of section 0, and explains nothing else (paper: 02, c).
+pub fn is_alarm(k2: u8) -> bool {
+    k2 & 0b1111 == ALARM
+}
+
+/// What the rows so far leave open.
+pub struct Line {
     sections: u16,
     w: u16,
-    usable: K1Set,
     /// What can be sent next while section 0 has not failed: RR, NR, and whatever
     /// can be a local request.
     open: K1Set,
     /// The steps of wait left.
     wait: u16,
-    /// The K1 of the last usable pair received. Its K2 shows in nothing that is
-    /// sent.
-    received: u8,
-    /// That pair may be the accepted one.
-    kept: bool,
+    pub heard: Heard,
     /// 00 08 may be the accepted pair, because section 0 has failed.
-    lost: bool,
+    pub lost: bool,
 }
 
 impl Line {
-    fn new(start: Record) -> Self {
+    pub fn new(start: Record) -> Self {
         let Record { n, mask, w, .. } = start;
-        let sections = ((1u32 << (n + 1)) - 2) as u16;
+        let sections = sections_of(n);
         Self {
-            n,
             sections,
             w,
-            usable: K1Set::usable(sections),
             open: K1Set::open(sections, mask << 1),
             wait: 0,
-            received: 0x00,
-            kept: true,
+            heard: Heard::new(start),
             lost: false,
         }
     }
@@ -157,39 +202,18 @@ impl Line {
     /// No choice here is made by a branch, which would be taken in one row and not
     /// in the next: hence `&` and `|`, which look at both sides, and `choose`.
     #[inline(always)]
-    fn explains(&mut self, [k1, k2, sent, sent_k2]: Row) -> bool {
-        self.receive(k1, k2);
-        // An alarm is a failure of section 0, and explains nothing else (paper: 02, c).
-        let open = self.open.has(sent) & (k2 & 0b1111 != ALARM);
+    pub fn explains(&mut self, [k1, k2, sent, sent_k2]: Row) -> bool {
+        self.lost &= !self.heard.receive(k1, k2);
+        let open = self.open.has(sent) & !is_alarm(k2);
         let reverse = sent >> 4 == Request::Reverse.code();
-        let kept = self.is_sent(sent, sent_k2, reverse);
+        let kept = self.heard.is_sent(sent, sent_k2, reverse);
         // With 00 08 accepted there is nothing to answer and nothing to bridge.
         let lost = !reverse & (sent_k2 == GOOD_LINE);
-        self.kept &= open & kept;
+        self.heard.kept &= open & kept;
         self.lost &= open & lost;
         self.lost |= can_be_failed(sent, sent_k2);
         self.go_on(sent);
-        self.kept | self.lost
-    }
-
-    /// Rule 1, for a section 0 that has not failed.
-    fn receive(&mut self, k1: u8, k2: u8) {
-        let line = k2 & 0b1111;
-        let usable = ((line == GOOD_LINE) | (line == REMOTE_DEFECT))
-            & (k2 >> 4 <= self.n)
-            & self.usable.has(k1);
-        self.received = choose(usable, k1, self.received);
-        self.kept |= usable;
-        self.lost &= !usable;
-    }
-
-    /// Rules 4 and 6, with the received pair accepted.
-    fn is_sent(&self, sent: u8, sent_k2: u8, reverse: bool) -> bool {
-        let channel = self.received & 0b1111;
-        let same = channel == sent & 0b1111;
-        let bridge = choose(same | (sent == 0), channel, 0);
-        let better = WORTH[usize::from(self.received)] > WORTH[usize::from(sent)];
-        (better == reverse) & (!reverse | same) & (sent_k2 == bridge << 4 | GOOD_LINE)
+        self.heard.kept | self.lost
     }
 
     /// What the next step can send: rules 2, 3 and 5.
@@ -215,7 +239,7 @@ impl Line {
 /// While section 0 has failed, nothing but LO outranks that, and nothing is
 /// accepted that could (rules 1, 3 and 4). LO can be given or held in every step,
 /// and be dropped by a clear.
-fn can_be_failed(sent: u8, sent_k2: u8) -> bool {
+pub fn can_be_failed(sent: u8, sent_k2: u8) -> bool {
     let pair = u16::from_be_bytes([sent, sent_k2]);
     (pair == FAIL_OF_PROTECTION) | (pair == LOCKOUT_OF_PROTECTION)
 }

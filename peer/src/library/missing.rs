@@ -2,7 +2,7 @@
 //! value of this type, so nothing here is ever called.
 
 use crate::door::{
-    Door, CHANGE, CHANGES, CONTENTS, DECODED, ENCODED, K1, RECORD, SIZE, STEP, VERDICT,
+    Door, Tables, CHANGE, CHANGES, CONTENTS, DECODED, ENCODED, K1, RECORD, SIZE, STEP, VERDICT,
 };
 
 pub enum Library {}
@@ -33,6 +33,10 @@ impl Door for Library {
     }
 
     fn judge(&self, _: u8, _: u16, _: u16, _: &[u8], _: &mut [u8; VERDICT]) -> u8 {
+        match *self {}
+    }
+
+    fn causes(&self, _: u8, _: u16, _: u16, _: &[u8], _: Tables, _: &mut [u8; VERDICT]) -> u8 {
         match *self {}
     }
 

@@ -6,13 +6,14 @@ mod made;
 
 use crate::books::capture::bind;
 use crate::books::{self, damage};
-use crate::programs::{group, Comparison, Group, Kind, Reading};
+use crate::programs::{by_bytes, group, Comparison, Group, Kind, Reading};
 use crate::switches::table::{Change, Table};
 
 pub const COMPARISON: Comparison = Comparison {
     program: "target/bin/switchlist",
     groups: &GROUPS,
     read: |book| Reading::of(Table::of(book), |changes| kind(changes)),
+    hold: by_bytes,
     lines: "changes",
     // A change from each K1 to each other alone comes to more than half of these.
     least: (100_000, "are due"),

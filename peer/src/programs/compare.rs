@@ -1,6 +1,6 @@
 //! One book, put to both programs.
 
-use super::{process, Reading, Shown};
+use super::{process, Comparison, Reading, Shown};
 use std::io;
 use std::path::Path;
 use std::process::Output;
@@ -21,19 +21,19 @@ pub struct Compared {
     pub differences: Vec<Difference>,
 }
 
-pub fn compare(program: &Path, read: fn(&[u8]) -> Reading, book: &[u8]) -> io::Result<Compared> {
-    let Reading { text, shown } = read(book);
+pub fn compare(program: &Path, comparison: &Comparison, book: &[u8]) -> io::Result<Compared> {
+    let Reading { text, shown } = (comparison.read)(book);
     let output = process::run(program, book)?;
-    Ok(Compared {
-        shown,
-        differences: differences(&text, &output),
-    })
+    let lines = Lines::of(text.as_bytes(), &output.stdout);
+    let mut differences = (comparison.hold)(book, lines);
+    differences.extend(other_differences(&output));
+    Ok(Compared { shown, differences })
 }
 
 /// The table is all that is printed. The paper is silent on the exit status: here
 /// to print a table is a success, whatever the table says.
-fn differences(ours: &str, theirs: &Output) -> Vec<Difference> {
-    let mut found = line_differences(ours.as_bytes(), &theirs.stdout);
+fn other_differences(theirs: &Output) -> Vec<Difference> {
+    let mut found = Vec::new();
     if !theirs.status.success() {
         found.push(Difference {
             row: None,
@@ -45,31 +45,59 @@ fn differences(ours: &str, theirs: &Output) -> Vec<Difference> {
         found.push(Difference {
             row: None,
             ours: "nothing on standard error".into(),
-            theirs: shown(lines(&theirs.stderr).first()),
+            theirs: shown(lines(&theirs.stderr).first().copied()),
         });
     }
     found
 }
 
-/// One difference for each line that is not the same. Texts that differ in any
+/// What this reading has, and what was printed, line by line. Texts that differ in any
 /// byte have such a line: what follows the last line feed counts as one.
-fn line_differences(ours: &[u8], theirs: &[u8]) -> Vec<Difference> {
-    let (ours, theirs) = (lines(ours), lines(theirs));
-    (0..ours.len().max(theirs.len()))
-        .filter(|&number| ours.get(number) != theirs.get(number))
-        .map(|number| Difference {
-            row: number.checked_sub(1),
-            ours: shown(ours.get(number)),
-            theirs: shown(theirs.get(number)),
-        })
-        .collect()
+pub struct Lines<'a> {
+    ours: Vec<&'a [u8]>,
+    theirs: Vec<&'a [u8]>,
+}
+
+impl<'a> Lines<'a> {
+    pub fn of(ours: &'a [u8], theirs: &'a [u8]) -> Self {
+        let [ours, theirs] = [ours, theirs].map(lines);
+        Self { ours, theirs }
+    }
+
+    /// One difference for each line that does not hold, with what is to be said of the
+    /// printed one. Either may be missing.
+    pub fn differences(
+        &self,
+        mut hold: impl FnMut(Option<&[u8]>, Option<&[u8]>) -> Result<(), String>,
+    ) -> Vec<Difference> {
+        let lines = |number| [&self.ours, &self.theirs].map(|lines| lines.get(number).copied());
+        (0..self.ours.len().max(self.theirs.len()))
+            .filter_map(|number| {
+                let [ours, theirs] = lines(number);
+                let said = hold(ours, theirs).err()?;
+                Some(Difference {
+                    row: number.checked_sub(1),
+                    ours: shown(ours),
+                    theirs: shown(theirs) + &said,
+                })
+            })
+            .collect()
+    }
+}
+
+/// For a table that is one and the same for all who print it.
+pub fn by_bytes(_: &[u8], lines: Lines) -> Vec<Difference> {
+    lines.differences(|ours, theirs| {
+        let same = (ours == theirs).then_some(());
+        same.ok_or_else(String::new)
+    })
 }
 
 fn lines(text: &[u8]) -> Vec<&[u8]> {
     text.split(|&byte| byte == b'\n').collect()
 }
 
-fn shown(line: Option<&&[u8]>) -> String {
+fn shown(line: Option<&[u8]>) -> String {
     line.map_or("(no line)".into(), |line| {
         format!("\"{}\"", line.escape_ascii())
     })
@@ -79,6 +107,7 @@ fn shown(line: Option<&&[u8]>) -> String {
 mod tests {
     use super::super::Kind;
     use super::*;
+    use crate::causes::printed;
     use crate::trials::PAPER_BOOK;
     use crate::{books, lists};
     use std::os::unix::process::ExitStatusExt;
@@ -94,16 +123,19 @@ mod tests {
         }
     }
 
+    fn differences(theirs: &[u8]) -> Vec<Difference> {
+        by_bytes(&[], Lines::of(TABLE.as_bytes(), theirs))
+    }
+
     fn rows_differing(stdout: &str) -> Vec<Option<usize>> {
-        differences(TABLE, &output(0, stdout, ""))
-            .into_iter()
-            .map(|difference| difference.row)
-            .collect()
+        let found = differences(stdout.as_bytes()).into_iter();
+        found.map(|difference| difference.row).collect()
     }
 
     #[test]
     fn the_same_text_has_no_difference() {
-        assert_eq!(differences(TABLE, &output(0, TABLE, "")), []);
+        assert_eq!(differences(TABLE.as_bytes()), []);
+        assert_eq!(other_differences(&output(0, TABLE, "")), []);
     }
 
     #[test]
@@ -111,8 +143,8 @@ mod tests {
         for place in 0..TABLE.len() {
             let mut other = TABLE.as_bytes().to_vec();
             other[place] ^= 1;
-            assert!(!line_differences(TABLE.as_bytes(), &other).is_empty());
-            assert!(!line_differences(TABLE.as_bytes(), &other[..place]).is_empty());
+            assert!(!differences(&other).is_empty());
+            assert!(!differences(&other[..place]).is_empty());
         }
         assert!(!rows_differing(&TABLE.replace('\n', "\r\n")).is_empty());
         assert!(!rows_differing(&format!("{TABLE}\n")).is_empty());
@@ -126,18 +158,18 @@ mod tests {
             ours: "\"0 2 3 explained 3\"".into(),
             theirs: "\"0 2 3 unexplained 2\"".into(),
         };
-        assert_eq!(differences(TABLE, &output(0, &wrong, "")), [expected]);
+        assert_eq!(differences(wrong.as_bytes()), [expected]);
         assert_eq!(rows_differing("refused 20\n"), [None, Some(0), Some(1)]);
     }
 
     #[test]
     fn the_status_and_standard_error_count_too() {
-        assert_eq!(differences(TABLE, &output(256, TABLE, "")).len(), 1);
-        assert_eq!(differences(TABLE, &output(9, TABLE, "late")).len(), 2);
+        assert_eq!(other_differences(&output(256, TABLE, "")).len(), 1);
+        assert_eq!(other_differences(&output(9, TABLE, "late")).len(), 2);
     }
 
-    fn with_nothing(read: fn(&[u8]) -> Reading, book: &[u8]) -> (Vec<(Kind, usize)>, usize) {
-        let compared = compare(Path::new("/bin/true"), read, book).unwrap();
+    fn with_nothing(comparison: &Comparison, book: &[u8]) -> (Vec<(Kind, usize)>, usize) {
+        let compared = compare(Path::new("/bin/true"), comparison, book).unwrap();
         let shown = compared.shown.iter().map(|shown| (shown.kind, shown.lines));
         (shown.collect(), compared.differences.len())
     }
@@ -147,12 +179,16 @@ mod tests {
     fn a_program_that_answers_nothing_differs() {
         let judged = vec![(Kind::Explained, 1), (Kind::Unexplained, 1)];
         let listed = vec![(Kind::Changed, 2), (Kind::Changed, 1)];
-        let refused = vec![(Kind::RefusedBook, 0)];
-        let [judge, list] = [books::COMPARISON, lists::COMPARISON].map(|with| with.read);
-        assert_eq!(with_nothing(judge, &PAPER_BOOK), (judged, 4));
-        assert_eq!(with_nothing(list, &PAPER_BOOK), (listed, 5));
-        assert_eq!(with_nothing(judge, &[]), (refused.clone(), 2));
-        assert_eq!(with_nothing(list, &[]), (refused, 2));
-        assert!(compare(Path::new("no/such/program"), list, &[]).is_err());
+        let caused = vec![(Kind::Explained, 3), (Kind::Unexplained, 1)];
+        for (comparison, shown, differences) in [
+            (&books::COMPARISON, judged, 4),
+            (&lists::COMPARISON, listed, 5),
+            (&printed::COMPARISON, caused, 6),
+        ] {
+            let refused = vec![(Kind::RefusedBook, 0)];
+            assert_eq!(with_nothing(comparison, &PAPER_BOOK), (shown, differences));
+            assert_eq!(with_nothing(comparison, &[]), (refused, 2));
+            assert!(compare(Path::new("no/such/program"), comparison, &[]).is_err());
+        }
     }
 }

@@ -2,7 +2,7 @@
 
 use super::compare::{compare, Compared};
 use super::report::Report;
-use super::{Job, Reading};
+use super::{Comparison, Job};
 use std::io::{self, Write};
 use std::num::NonZero;
 use std::path::Path;
@@ -20,7 +20,7 @@ type Done = (usize, io::Result<Compared>);
 /// has come is told to `progress`.
 pub fn compare_all(
     program: &Path,
-    read: fn(&[u8]) -> Reading,
+    comparison: &Comparison,
     jobs: &[Job],
     report: &mut Report,
     progress: &mut impl Write,
@@ -30,7 +30,7 @@ pub fn compare_all(
     thread::scope(|scope| {
         for _ in 0..thread::available_parallelism().map_or(1, NonZero::get) {
             let (next, sender) = (&next, sender.clone());
-            scope.spawn(move || work(program, read, jobs, next, &sender));
+            scope.spawn(move || work(program, comparison, jobs, next, &sender));
         }
         // The channel ends when the last worker does.
         drop(sender);
@@ -41,7 +41,7 @@ pub fn compare_all(
 /// Takes jobs until there are none left, or nobody wants to know.
 fn work(
     program: &Path,
-    read: fn(&[u8]) -> Reading,
+    comparison: &Comparison,
     jobs: &[Job],
     next: &AtomicUsize,
     sender: &Sender<Done>,
@@ -51,7 +51,7 @@ fn work(
         let Some(job) = jobs.get(number) else {
             return;
         };
-        let compared = compare(program, read, &job.book);
+        let compared = compare(program, comparison, &job.book);
         if sender.send((number, compared)).is_err() {
             return;
         }
@@ -79,7 +79,7 @@ fn tell(progress: &mut impl Write, report: &Report, end: &str) {
 
 #[cfg(all(test, unix))]
 mod tests {
-    use super::super::{group, Comparison};
+    use super::super::group;
     use super::*;
     use crate::books::COMPARISON;
     use crate::trials::PAPER_BOOK;
@@ -99,8 +99,8 @@ mod tests {
         let jobs: Vec<Job> = (0..20).map(job).collect();
         let mut report = Report::new(&PAPER, &jobs);
         let mut progress = Vec::new();
-        let (program, read) = (Path::new(program), PAPER.read);
-        compare_all(program, read, &jobs, &mut report, &mut progress)?;
+        let program = Path::new(program);
+        compare_all(program, &PAPER, &jobs, &mut report, &mut progress)?;
         Ok(String::from_utf8_lossy(&progress).into_owned())
     }
 

@@ -1,6 +1,6 @@
-//! The comparisons of `peer books` and `peer lists`: books are made, another program
-//! is run on each of them, and what it prints is compared byte for byte with the table
-//! that this reading prints.
+//! The comparisons of `peer books`, `peer lists` and `peer causes`: books are made,
+//! another program is run on each of them, and what it prints is held against the table
+//! that this reading prints, byte for byte where there is one answer.
 
 mod compare;
 mod crew;
@@ -9,6 +9,7 @@ mod report;
 
 use crate::book::Entry;
 use crate::table::{Captured, Table};
+pub use compare::{by_bytes, Difference, Lines};
 use report::{Column, Report};
 use std::io;
 use std::path::Path;
@@ -23,6 +24,8 @@ pub struct Comparison {
     /// In the order in which they are reported.
     pub groups: &'static [Group],
     pub read: fn(&[u8]) -> Reading,
+    /// How the lines of a book that this reading has differ from those that are printed.
+    pub hold: fn(&[u8], Lines) -> Vec<Difference>,
     /// What a line of its tables is about.
     pub lines: &'static str,
     /// How many lines have to come up, and the words for that.
@@ -55,7 +58,8 @@ impl Group {
     }
 }
 
-/// What books may show: the first two by the judge, the next two by the list.
+/// What books may show: the first two by the judge and by causes, the next two by the
+/// list.
 #[derive(Clone, Copy, Debug, PartialEq, Eq)]
 pub enum Kind {
     Explained,
@@ -109,6 +113,11 @@ impl Reading {
         };
         Self { text, shown }
     }
+
+    #[cfg(test)]
+    pub fn kinds(&self) -> Vec<Kind> {
+        self.shown.iter().map(|shown| shown.kind).collect()
+    }
 }
 
 /// A book to be compared.
@@ -132,7 +141,7 @@ impl Comparison {
         process::run(program, &[])?;
         let jobs = self.jobs();
         let mut report = Report::new(self, &jobs);
-        crew::compare_all(program, self.read, &jobs, &mut report, &mut io::stderr())?;
+        crew::compare_all(program, self, &jobs, &mut report, &mut io::stderr())?;
         let mut text = Vec::new();
         report.write(&mut text)?;
         Ok(Finding {

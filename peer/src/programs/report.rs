@@ -213,6 +213,7 @@ fn write_rows(out: &mut impl Write, bytes: &[u8], row_bytes: usize) -> io::Resul
 mod tests {
     use super::super::group;
     use super::*;
+    use crate::causes::printed;
     use crate::trials::PAPER_BOOK;
     use crate::{books, lists};
 
@@ -231,6 +232,10 @@ mod tests {
             Vec::new,
         )],
         ..lists::COMPARISON
+    };
+    const CAUSED: Comparison = Comparison {
+        groups: JUDGED.groups,
+        ..printed::COMPARISON
     };
 
     fn jobs() -> Vec<Job> {
@@ -281,9 +286,18 @@ total           2         3         2       0              1
 3 changes, 100000 are due
 2 differences
 2 of 2 books, 3 changes, 2 differences";
+        let caused = "\
+group       books     steps  explained  unexplained  refused books
+paper           2         3          1            1              1
+total           2         3          1            1              1
+4 lines, 250000 are due
+paper shows [Explained, Unexplained, RefusedBook], not [Explained, Unexplained]
+2 differences
+2 of 2 books, 4 lines, 2 differences";
         for (comparison, row, told, counts) in [
             (&JUDGED, 1, " n 2, mask 0, W 3", judged),
             (&LISTED, 2, "", listed),
+            (&CAUSED, 3, " n 2, mask 0, W 3", caused),
         ] {
             let expected = format!(
                 "\
@@ -325,7 +339,7 @@ paper, book 1 of 3 bytes:
 
     #[test]
     fn a_group_has_to_show_what_it_is_for() {
-        for comparison in [JUDGED, LISTED] {
+        for comparison in [JUDGED, LISTED, CAUSED] {
             let (least, _) = comparison.least;
             let due = comparison.groups[0].shows;
             let more = [due, &[Kind::Still]].concat();

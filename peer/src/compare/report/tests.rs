@@ -4,7 +4,7 @@ const SUBJECT: Subject = Subject {
     name: "trial",
     least: 3,
     refusals: &[0, 2],
-    kinds: &["one", "", "three"],
+    kinds: &[("one", 1), ("", 1), ("three", 2)],
     parts: 1,
     compare: |_, _| Tally::default(),
 };
@@ -63,7 +63,7 @@ type Spoil = fn(&mut Tally);
 
 #[test]
 fn a_subject_has_to_come_by_what_it_is_for() {
-    let spoilt: [(Spoil, &str); 4] = [
+    let spoilt: [(Spoil, &str); 5] = [
         (|tally| tally.calls = 2, "trial: 2 calls, 3 are due"),
         (
             |tally| tally.refusals[2] = 0,
@@ -71,6 +71,10 @@ fn a_subject_has_to_come_by_what_it_is_for() {
         ),
         (|tally| tally.refusals[1] = 1, "the refusals are [0, 1, 2]"),
         (|tally| tally.kinds[2] = 0, "trial: none of the kind three"),
+        (
+            |tally| tally.kinds[2] = 1,
+            "trial: 1 of the kind three, 2 are due",
+        ),
     ];
     for (spoil, shortcoming) in spoilt {
         let mut tally = tally();

@@ -3,10 +3,9 @@
 
 use super::{Extension, Lookup};
 use crate::book::{MOST_BYTES, STEP_BYTES};
+use crate::compare::faults::{present, NOT_WHOLE_STEPS, TOO_LONG};
 use crate::door::{CHANGE, CHANGES};
 
-const NOT_WHOLE_STEPS: u8 = 8;
-const TOO_LONG: u8 = 9;
 const NO_ROOM: u8 = 12;
 const NOT_IN_CAPTURE: u8 = 13;
 pub const OTHER_LIST: u8 = 16;
@@ -40,15 +39,6 @@ fn changed_among(capture: &[u8], steps: usize) -> Vec<usize> {
 fn is_same(list: &[u16], changes: &[usize]) -> bool {
     let entries = list.iter().map(|&entry| usize::from(entry));
     entries.eq(changes.iter().copied())
-}
-
-/// The numbers of the faults, in order.
-fn present<const N: usize>(order: [u8; N], applies: [bool; N]) -> Vec<u8> {
-    let faults = order.into_iter().zip(applies);
-    faults
-        .filter(|&(_, applies)| applies)
-        .map(|(fault, _)| fault)
-        .collect()
 }
 
 impl Extension {

@@ -1,6 +1,7 @@
 //! What is counted of extensions and lookups, and which of it each subject comes by.
 
 use super::faults::{EXTENSION_ORDER, LOOKUP_ORDER};
+use crate::compare::faults::{self, has, Pair};
 use crate::compare::tally::Tally;
 
 /// But for `RightUpToTheStep`, which is refused, what is counted of calls that are not.
@@ -32,7 +33,7 @@ const NAMES: [&str; 9] = [
 
 /// Two refusals that apply at once: each two, in the order in which they are asked for.
 /// They are counted behind the kinds.
-const PAIRS: [(&str, [u8; 2]); 10] = [
+const PAIRS: [Pair; 10] = [
     ("8 and 9", [8, 9]),
     ("8 and 13", [8, 13]),
     ("8 and 16", [8, 16]),
@@ -94,14 +95,6 @@ const fn with_pairs(mut names: Names, refusals: &[u8]) -> Names {
     names
 }
 
-/// As `contains` does, which a constant cannot be made with.
-const fn has(refusals: &[u8], refusal: u8) -> bool {
-    match refusals {
-        [first, rest @ ..] => *first == refusal || has(rest, refusal),
-        [] => false,
-    }
-}
-
 /// Those that apply.
 pub fn count<const N: usize>(tally: &mut Tally, kinds: [(Kind, bool); N]) {
     let applying = kinds.into_iter().filter(|&(_, applies)| applies);
@@ -110,11 +103,7 @@ pub fn count<const N: usize>(tally: &mut Tally, kinds: [(Kind, bool); N]) {
 
 /// Every two of the faults.
 pub fn count_pairs(tally: &mut Tally, faults: &[u8]) {
-    for (place, &(_, [first, second])) in PAIRS.iter().enumerate() {
-        if has(faults, first) && has(faults, second) {
-            tally.count(NAMES.len() + place);
-        }
-    }
+    faults::count_pairs(tally, NAMES.len(), &PAIRS, faults);
 }
 
 #[cfg(test)]

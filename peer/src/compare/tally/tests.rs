@@ -1,5 +1,6 @@
 use super::*;
 use crate::compare::lent::{Lent, LentList, LentSlice};
+use crate::draws::Word;
 use std::cell::Cell;
 
 #[derive(Clone, PartialEq)]
@@ -92,24 +93,25 @@ fn every_touched_guard_of_an_output_is_a_difference() {
     }
 }
 
-impl Memory for LentList {
+impl<T: Word> Memory for LentList<T> {
     fn parts(&self) -> Vec<(&'static str, Part<'_>)> {
         vec![("list", self.part())]
     }
 }
 
-/// Of the guards too, which are 8 entries behind the list, and 8 or more before it.
-#[test]
-fn every_touched_entry_of_a_list_is_a_difference() {
+/// Of a list of three entries, and of the guards, which are so many entries behind it and
+/// as many or more before it.
+fn assert_each_touched_is_a_difference<T: Word>(entries: [T; 3], guard: usize, touch: fn(&mut T)) {
     let mut bits = Bits::from_seeds(4, 1);
-    let memory = LentList::new(&mut bits, &[3, 5, 8]);
+    let memory = LentList::new(&mut bits, &entries);
     let entries = memory.clone().with_guards().len();
-    assert!(entries >= 8 + 3 + 8);
+    assert!(entries >= guard + 3 + guard);
     for place in 0..entries {
         let first = Cell::new(true);
         let both = both(&Peer, &memory, |_, memory| {
-            let touched = u16::from(first.replace(false));
-            memory.with_guards()[place] ^= touched << 15;
+            if first.replace(false) {
+                touch(&mut memory.with_guards()[place]);
+            }
             0
         });
         let mut tally = Tally::default();
@@ -117,6 +119,12 @@ fn every_touched_entry_of_a_list_is_a_difference() {
         assert_eq!(tally.differences, 1, "{place}");
         assert!(tally.told[0].contains("  list, library: ["));
     }
+}
+
+#[test]
+fn every_touched_entry_of_a_list_is_a_difference() {
+    assert_each_touched_is_a_difference([3, 5, 8], 8, |word: &mut u16| *word ^= 1 << 15);
+    assert_each_touched_is_a_difference([3, 5, 8], 4, |word: &mut u32| *word ^= 1 << 31);
 }
 
 /// What a call leaves out keeps the drawn bytes, which no answer has.

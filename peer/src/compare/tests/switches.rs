@@ -189,20 +189,10 @@ pub fn look_up(wrong: &str, capture: &[u8], list: &[u16], step: u16, out: &mut [
 const EXTENDING: [&str; 3] = ["switches, small", "switches, in turn", "switches, drawn"];
 const LOOKING_UP: [&str; 2] = ["last change, small", "last change, drawn"];
 
-/// A few parts of each subject together, since a rare fault need not be in one.
-fn differences(subjects: &[&str], wrong: &'static str) -> u64 {
-    let parts = subjects
-        .iter()
-        .flat_map(|name| (0..8).map(|part| (subject(name), part)));
-    parts
-        .map(|(subject, part)| (subject.compare)(&Fake { wrong }, part).differences)
-        .sum()
-}
-
 #[test]
 fn a_library_that_lists_otherwise_is_noticed() {
     for wrong in EXTENSIONS {
-        let differences = differences(&EXTENDING, wrong);
+        let differences = differences_of(&EXTENDING, wrong);
         assert!(differences >= 5, "{wrong}: {differences}");
     }
 }
@@ -210,26 +200,14 @@ fn a_library_that_lists_otherwise_is_noticed() {
 #[test]
 fn a_library_that_looks_up_otherwise_is_noticed() {
     for wrong in LOOKUPS {
-        let differences = differences(&LOOKING_UP, wrong);
+        let differences = differences_of(&LOOKING_UP, wrong);
         assert!(differences >= 5, "{wrong}: {differences}");
     }
 }
 
-/// All parts of all of them, so that the counts are those of `peer compare`: each comes
-/// by its refusals and kinds, and by the calls that are due.
 #[test]
 fn lists_and_lookups_come_by_what_they_are_for() {
-    let named = |subject: &&Subject| {
-        let names = [&EXTENDING[..], &LOOKING_UP].concat();
-        names.contains(&subject.name)
-    };
-    for subject in SUBJECTS.iter().filter(named) {
-        let mut text = Vec::new();
-        let (subjects, tallies) = (std::slice::from_ref(subject), [all_of(subject)]);
-        report::write(&mut text, subjects, &tallies).expect("memory takes every write");
-        let text = String::from_utf8_lossy(&text);
-        assert!(report::is_clean(subjects, &tallies), "{text}");
-    }
+    assert_come_by_what_they_are_for(&[&EXTENDING[..], &LOOKING_UP].concat());
 }
 
 /// Each subject that makes a list from a list that the library made.

@@ -8,8 +8,8 @@ use Rattle.pair.specs.Request.{nothingCode}
 use Rattle.request.specs.Order.{same}
 use Rattle.request.specs.declared.Request.{Request}
 use Rattle.controller.specs.Rules.{isCommand, held, rankOfRequest}
-use Rattle.controller.proofs.Apart.{none-rank}
 use Rattle.explain.specs.Cause.{rankHeld, follows, commandedAt}
+use Rattle.explain.proofs.Commands.{command-code, held-rank}
 use borrow.Author.Needs.{needs}
 use Rattle.explain.proofs.cause.commanded.Statement.{statement}
 use Rattle.explain.proofs.cause.commanded.Tie as tie
@@ -26,28 +26,13 @@ rank-held-requires c κs = search needs
 follows-requires : tie.Need-follows-requires
 follows-requires c κs = search needs
 
--- a command has another code than none, and than what is no command
-command-code : (code : ℕ) → isCommand code ≡ true → eqb code nothingCode ≡ false
-command-code code h = go (eqb code nothingCode) refl
-  where
-    go : (t : Bool) → eqb code nothingCode ≡ t → eqb code nothingCode ≡ false
-    go true e = absurd (false≢true (ap isCommand (sym (eqb-true code nothingCode e)) ∙ h))
-    go false e = e
-
+-- a command has another code than what is no command
 other-code : (code code2 : ℕ) → isCommand code ≡ true → isCommand code2 ≡ false → eqb code code2 ≡ false
 other-code code code2 h k = go (eqb code code2) refl
   where
     go : (t : Bool) → eqb code code2 ≡ t → eqb code code2 ≡ false
     go true e = absurd (false≢true (sym k ∙ ap isCommand (sym (eqb-true code code2 e)) ∙ h))
     go false e = e
-
-held-rank : (last : Request) → rankHeld (held last) (rankOfRequest last) ≡ rankOfRequest (held last)
-held-rank last = go (isCommand (last .code)) refl
-  where
-    go : (t : Bool) → isCommand (last .code) ≡ t
-        → rankHeld (held last) (rankOfRequest last) ≡ rankOfRequest (held last)
-    go true e = rw (e, command-code (last .code) e)
-    go false e = rw e (sym none-rank)
 
 -- a request that is no command is held as none, and then nothing else is looked at
 sent-held : (last x : Request) (rank : ℕ)

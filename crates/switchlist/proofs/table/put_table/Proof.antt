@@ -12,8 +12,14 @@ put-captures-requires c κs =
     let answer = c .before .before .before .before in
     rw (answer .read .ensures) (read-few (answer .before .before .before .before .args .book .now))
 
-put-refusal-requires : tie.Need-put-refusal-requires
-put-refusal-requires c κs = search needs
+slice-aggregate-put-last : tie.Need-slice-aggregate-put-last
+slice-aggregate-put-last c = search needs
+
+cast-put-last : tie.Need-cast-put-last
+cast-put-last c = search needs
+
+put-last-requires : tie.Need-put-last-requires
+put-last-requires c κs = search needs
 
 same-length : tie.Need-same-length
 same-length c = search needs
@@ -36,7 +42,9 @@ put-table-spec =
     (tie.spec
     read-requires
     put-captures-requires
-    put-refusal-requires
+    slice-aggregate-put-last
+    cast-put-last
+    put-last-requires
     same-length
     same-length-2
     returns
