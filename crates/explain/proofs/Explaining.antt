@@ -1,9 +1,9 @@
 -- The walk back settles every step of a scan that leaves something open behind each row: its words read as causes under which
 -- the controller sends the rows.
 use mathlib.Core.Path.{_≡_, refl, sym, ap, subst, _∙_}
-use mathlib.Core.Bool.{Bool, true, false, not, _&&_, and-eq-true-iff, false≢true, true≢false}
+use mathlib.Core.Bool.{Bool, true, false, not, _&&_, and-eq-true-iff, false≢true}
 use mathlib.Core.List.{List, [], _∷_}
-use Prim.Native.Nat.{ℕ, suc, _+_, _*_, _/_, _%_, _^_, _≤_, _<_, zero-le}
+use Prim.Native.Nat.{ℕ, suc, _+_, _*_, _^_, _≤_, _<_, zero-le}
 use native.Mathlib.Numerals.{add-one}
 use native.Mathlib.Omega.{arith}
 use lib.Dec.{lit<, lit≤}
@@ -12,18 +12,18 @@ use Rattle.basics.specs.Choice.{if_then_else_}
 use Rattle.basics.specs.Settings.{sectionsFit, maskFits}
 use Rattle.basics.specs.Table.{every}
 use Rattle.basics.proofs.Fitting.{fit-bounds}
-use Rattle.pair.specs.Request.{requests, carries}
+use Rattle.pair.specs.Request.{requests}
 use Rattle.pair.proofs.Rows.{carried-within}
 use Rattle.request.specs.declared.Request.{Request}
 use Rattle.controller.specs.Settings.{fresh}
 use Rattle.controller.specs.Rules.{asked}
 use Rattle.controller.specs.Step.{waitOf}
 use Rattle.controller.specs.declared.Controller.{Controller}
-use Rattle.explain.specs.Explained.{Cause, stepped, Sends, Explains}
+use Rattle.explain.specs.Explained.{Cause, Explains}
 use Rattle.explain.specs.Cause.{mayHide, only, badFor, isNew, commandFor, channelFor, isLouder}
 use Rattle.explain.specs.Causes.{conditionsIn, noOtherBit, causeIn, causesIn, Shown}
-use Rattle.explain.specs.Filling.{failedIn, unmarked, conditionsKept, commandKept, conditionsAlong, commandsAlong, ended}
-use Rattle.explain.specs.Filling.{failedBack, idleBack, settledWord, idleBefore, settled, heardPlace, Fills}
+use Rattle.explain.specs.Filling.{failedIn, conditionsKept, commandKept, conditionsAlong, commandsAlong, ended}
+use Rattle.explain.specs.Filling.{idleBack, settledWord, idleBefore, settled, heardPlace, Fills}
 use Rattle.explain.specs.Scan.{Scanned, all, first, scanFrom}
 use Rattle.explain.specs.Trace.{start, live, hiddenIn, next}
 use Rattle.explain.specs.declared.Records.{Records}

@@ -1,25 +1,24 @@
 -- In a row that leaves something open what is sent is known to be possible: a local request, unless it is RR or SF0; and SF0
 -- and LO may have been sent under a failed section 0. So the scan of an explained capture need not ask for it.
 use mathlib.Core.Path.{_≡_, refl, sym, ap, _∙_}
-use mathlib.Core.Bool.{Bool, true, false, not, _&&_, _||_, and-false, and-eq-true-iff, false≢true, true≢false}
+use mathlib.Core.Bool.{Bool, true, false, not, _&&_, _||_, and-false, and-eq-true-iff, false≢true}
 use mathlib.Core.Logic.{_⊎_, inl, inr, ⊎-elim}
 use Prim.Native.Nat.{ℕ}
 use native.Mathlib.Omega.{arith}
 use lib.Dec.{leb, eqb}
-use borrow.Author.Tests.{eqb-true, eqb-false, ne-eqb}
+use borrow.Author.Tests.{eqb-true}
 use Rattle.basics.specs.Capture.{Row}
-use Rattle.basics.specs.Choice.{if_then_else_}
 use Rattle.pair.specs.Marks.{usable, channelOf, alarmIn}
 use Rattle.pair.specs.Request.{requests, carries}
 use Rattle.request.specs.Bridge.{bridge}
 use Rattle.request.specs.Order.{mayWin, better}
 use Rattle.request.specs.declared.Request.{Request}
 use Rattle.request.proofs.Order.{or-true}
-use Rattle.controller.specs.Rules.{asked, rankOfRequest, isCommand, held, failCode, degradeCode, keepsBridge}
+use Rattle.controller.specs.Rules.{asked, rankOfRequest, isCommand, failCode, degradeCode, keepsBridge}
 use Rattle.controller.specs.Settings.{high, idleK1}
 use Rattle.controller.specs.Step.{waitOf}
 use Rattle.controller.specs.declared.Controller.{Controller}
-use Rattle.explain.specs.Cause.{commanded, conditioned, waited, arises, unseen, answers, isSF0, isLocal, mayHide}
+use Rattle.explain.specs.Cause.{conditioned, waited, arises, unseen, answers, isLocal, mayHide}
 use Rattle.explain.specs.Filling.{followed}
 use Rattle.explain.specs.Trace.{live, secondFits, opens, commandIn, localIn, hiddenIn, heardBy, next}
 use Rattle.explain.specs.declared.Records.{Records}

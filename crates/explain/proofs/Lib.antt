@@ -4,6 +4,7 @@ mod Ranking
 mod Single
 mod Commands
 mod Local
+mod Witness
 mod Source
 mod OneStep
 mod Alarmed

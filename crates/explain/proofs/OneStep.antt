@@ -13,11 +13,11 @@ use Rattle.request.specs.declared.Request.{Request}
 use Rattle.request.proofs.Order.{or-true, or-right, rank-orders}
 use Rattle.controller.specs.Rules.{noRequest, rankOfRequest, held, decided}
 use Rattle.controller.specs.Step.{protection}
-use Rattle.controller.proofs.Apart.{none-rank}
 use Rattle.controller.proofs.Candidates.{none-loses}
 use Rattle.explain.specs.Explained.{Cause}
 use Rattle.explain.specs.Cause.{commanded, arises, unseen, answers, only}
-use Rattle.explain.proofs.Local.{Fits, nowOf, nearOf, Makes, Local, shown, clearing, near-below, reverse-makes, arises-makes, unseen-makes}
+use Rattle.explain.proofs.Local.{Fits, nowOf, nearOf, Makes, Local}
+use Rattle.explain.proofs.Witness.{shown, clearing, near-below, reverse-makes, arises-makes, unseen-makes}
 use Rattle.explain.proofs.Source.{local-arises, local-unseen}
 
 module _ (n mask w left : ℕ) (last : Request) where

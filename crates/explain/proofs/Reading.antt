@@ -1,14 +1,13 @@
 -- What is written of a step, read back: the marks, the conditions and the command.
-use mathlib.Core.Path.{_≡_, refl, sym, ap, _∙_}
-use mathlib.Core.Bool.{Bool, true, false, not, _&&_}
+use mathlib.Core.Path.{_≡_, refl, ap, _∙_}
+use mathlib.Core.Bool.{Bool, true, false}
 use mathlib.Core.List.{List, _∷_}
 use Prim.Native.Nat.{ℕ, zero, suc, _+_, _*_, _/_, _%_, _^_, _≤_, _<_, zero-le}
 use native.Mathlib.Nat.{le-of-suc-le-suc, not-suc-le-zero, mul-le-mul, pow-le-pow-right, pow-succ', mul-one, mul-left-comm}
 use native.Mathlib.Numerals.{add-one}
 use native.Mathlib.Omega.{arith}
-use lib.Dec.{ltb, eqb, lit<}
+use lib.Dec.{lit<}
 use borrow.Author.Tests.{lt-ltb}
-use Rattle.basics.specs.Choice.{if_then_else_}
 use Rattle.explain.specs.Cause.{only}
 use Rattle.explain.specs.Causes.{conditionsIn, noOtherBit}
 use Rattle.explain.specs.Filling.{heardPlace, marked, heardIn, failedIn, unmarked}

@@ -10,7 +10,7 @@ use request::Request;
 use request::better;
 use request::replaces;
 ghost use Rattle.controller.specs.Rules.{rankOfRequest, held};
-ghost use Rattle.explain.specs.Cause.{rankHeld, follows, commandedAt, conditioned, waited, arises, unseen, answersAt, isSF0, isLocal, mayHide};
+ghost use Rattle.explain.specs.Cause.{rankHeld, follows, commandedAt, conditioned, waited, arises, unseen, answersAt, isLocal, mayHide};
 ghost use mathlib.Core.Path.{_≡_};
 
 // The rank of the command that is held, if one is.
@@ -75,16 +75,10 @@ pub(crate) fn answers(far: Request, theirs: u8, x: Request, rank: u8, local: boo
     reversed | (local & !beaten)
 }
 
-fn is_sf0(x: Request) -> bool
-    ensures { λ r. ⌜ r ≡ isSF0 x ⌝ }
-{
-    (x.channel == 0) & (x.code == FAIL_HIGH)
-}
-
 pub(crate) fn is_local(x: Request) -> bool
     ensures { λ r. ⌜ r ≡ isLocal x ⌝ }
 {
-    let protects = is_sf0(x);
+    let protects = (x.channel == 0) & (x.code == FAIL_HIGH);
     (x.code != REVERSE) & !protects
 }
 

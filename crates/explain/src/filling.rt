@@ -29,7 +29,6 @@ ghost use Rattle.pair.specs.Marks.{channelOf};
 ghost use Rattle.pair.specs.Request.{requests};
 ghost use Rattle.pair.specs.Table.{tableOf};
 ghost use lib.ListN.{length, take};
-ghost use mathlib.Core.Bool.{not};
 ghost use mathlib.Core.Path.{_≡_};
 
 // The marks stand where no word of conditions has a bit: a group has no section 15.

@@ -14,7 +14,6 @@ ghost use Rattle.basics.specs.Capture.{sizeFaults};
 ghost use Rattle.basics.specs.First.{firstOf};
 ghost use Rattle.explain.specs.Causes.{roomFaults, Causes};
 ghost use Rattle.explain.specs.Verdict.{told, Right};
-ghost use lib.ListN.{length};
 ghost use mathlib.Core.List.{_++_};
 ghost use mathlib.Core.Path.{_≡_};
 

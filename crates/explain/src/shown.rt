@@ -8,7 +8,7 @@ use controller::command::held;
 use controller::section::condition;
 use request::Request;
 ghost use Prim.Native.Nat.{_+_, _*_, _^_, _≤_};
-ghost use Rattle.explain.specs.Cause.{badFor, isNew, goesOn, louder, deciding, numberOf, commandFor, channelFor};
+ghost use Rattle.explain.specs.Cause.{badFor, louder, deciding, numberOf, commandFor, channelFor};
 ghost use mathlib.Core.Path.{_≡_};
 
 fn bad_for(mask: u16, x: Request) -> u8
@@ -32,21 +32,6 @@ pub(crate) fn conditions_word(mask: u16, x: Request) -> u32
 {
     let bad = bad_for(mask, x);
     (bad as u32) << (2 * x.channel)
-}
-
-fn is_new(last: Request, x: Request) -> bool
-    ensures { λ r. ⌜ r ≡ isNew last x ⌝ }
-{
-    let after = held(x);
-    let same = (x.code == last.code) & (x.channel == last.channel);
-    (after.code != NOTHING) & !same
-}
-
-fn goes_on(x: Request) -> bool
-    ensures { λ r. ⌜ r ≡ goesOn x ⌝ }
-{
-    let after = held(x);
-    (after.code != NOTHING) | (x.code == WAIT_TO_RESTORE)
 }
 
 pub(crate) fn louder(rank: u8, prior: u8, now: u16) -> bool
@@ -78,12 +63,15 @@ fn number_of(code: u8) -> u8
 pub(crate) fn command_word(last: Request, x: Request, loud: bool) -> u16
     ensures { λ r. ⌜ r ≡ 256 * commandFor last x loud + channelFor last x ⌝ }
 {
-    if is_new(last, x) {
+    let after = held(x);
+    let commands = after.code != NOTHING;
+    let same = (x.code == last.code) & (x.channel == last.channel);
+    if commands & !same {
         let number = number_of(x.code);
         return 256 * (number as u16) + x.channel as u16;
     }
-    let goes = goes_on(x);
-    if !goes & loud {
+    let goes_on = commands | (x.code == WAIT_TO_RESTORE);
+    if !goes_on & loud {
         return 256;
     }
     0

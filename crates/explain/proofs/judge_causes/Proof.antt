@@ -1,5 +1,5 @@
 -- `judge_causes` meets its contract: refused for the settings, refused for a size, or the scan's verdict with the tables by it.
-use mathlib.Core.Path.{_≡_, refl, sym, ap, _∙_}
+use mathlib.Core.Path.{refl, sym, _∙_}
 use lib.ListN.{length}
 use Prim.Native.Nat.{_/_}
 use Rattle.basics.specs.Capture.{sizeFaults}
