@@ -20,7 +20,7 @@ use Rattle.controller.specs.Step.{moved, step}
 use Rattle.controller.specs.declared.Controller.{Controller}
 use Rattle.controller.specs.declared.Outcome.{Outcome}
 use Rattle.controller.proofs.Keeping.{step-refused}
-use Rattle.explain.specs.Verdict.{Judging, Answers}
+use Rattle.explain.specs.Verdict.{Judging, RightBehind}
 use Rattle.explain.specs.Causes.{fixedIn}
 use Rattle.explain.proofs.Exact.{answer-one}
 use Rattle.explain.proofs.Tables.{verdict-one, fixed-one}
@@ -29,7 +29,7 @@ use Rattle.book.specs.declared.Contents.{Contents}
 use Rattle.book.proofs.Books.{refused-writing}
 use Rattle.chainplater.specs.Coder.{flag, encodingBytes}
 use Rattle.chainplater.specs.Record.{layout, fields, named, recordIn, recordBytes, outcomeBytes}
-use Rattle.chainplater.specs.Verdict.{judgingBytes, Told, Caused, fixedBy}
+use Rattle.chainplater.specs.Verdict.{judgingBytes, Told, CausesTold, fixedBy}
 
 pub record-size : (s : Controller) → length (recordBytes s) ≡ 10
 unfolding recordBytes
@@ -99,7 +99,7 @@ module _ {Holds Holds2 : Judging → Type 0} {r r2 : ℕ} {out out2 : List ℕ} 
   same-bytes = p .bytes ∙ ap judgingBytes one ∙ sym (q .bytes)
 
 pub judged-one : (faults : List Check) (n mask w : ℕ) (capture : List ℕ) {r r2 : ℕ} {out out2 : List ℕ}
-    (p : Told (Answers faults n mask w capture) r out) (q : Told (Answers faults n mask w capture) r2 out2)
+    (p : Told (RightBehind faults n mask w capture) r out) (q : Told (RightBehind faults n mask w capture) r2 out2)
     → p .answer ≡ q .answer
 judged-one faults n mask w capture p q = answer-one n mask w faults capture (p .answer) (q .answer) (p .right) (q .right)
 
@@ -112,9 +112,9 @@ fixed-by p table =
     ∙ ap (λ (k : ℕ). if eqb (p .answer .verdict) 1 then drop k table else table) at
 
 module _ {n mask w r r2 : ℕ} {capture old old2 new new2 out after after2 out2 : List ℕ}
-    (p : Caused n mask w capture old old2 r new new2 out) (q : Caused n mask w capture old old2 r2 after after2 out2) where
-  pub caused-one : p .answer ≡ q .answer
-  caused-one = verdict-one (p .right) (q .right)
+    (p : CausesTold n mask w capture old old2 r new new2 out) (q : CausesTold n mask w capture old old2 r2 after after2 out2) where
+  pub causes-one : p .answer ≡ q .answer
+  causes-one = verdict-one (p .right) (q .right)
 
   pub same-conditions : fixedBy out new ≡ fixedBy out2 after
   same-conditions = fixed-by p new ∙ fixed-one (p .right) (q .right) .0 ∙ sym (fixed-by q after)

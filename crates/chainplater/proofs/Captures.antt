@@ -15,7 +15,7 @@ use Rattle.basics.proofs.Fitting.{fit-settings}
 use Rattle.basics.proofs.Table.{at-entry}
 use Rattle.controller.specs.Settings.{fresh, settingsFaults, making}
 use Rattle.explain.specs.Causes.{Causes}
-use Rattle.explain.specs.Verdict.{Judging, judgeFaults, Answers, Right}
+use Rattle.explain.specs.Verdict.{Judging, judgeFaults, RightBehind, Right}
 use Rattle.explain.proofs.Rows.{rows-long}
 use Rattle.explain.proofs.Tables.{judged}
 use Rattle.switches.specs.Extend.{extending}
@@ -63,7 +63,7 @@ module _ (book : List ℕ) (none : reading book .refusal ≡ 0) (i : ℕ) (h : i
       )
 
   pub capture-judged : (j : Judging) → Right (entry .n) (entry .mask) (entry .w) (bodyOf book entry) j → j .refusal ≡ 0
-  unfolding Answers
+  unfolding RightBehind
   capture-judged j right =
       ⊎-elim (λ found. ap (λ (a : Judging). a .refusal) (found .0)) (λ found. ap (λ (a : Judging). a .refusal) (found .1))
       (rw judge-unrefused at right)

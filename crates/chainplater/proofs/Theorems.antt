@@ -29,7 +29,7 @@ use Rattle.chainplater.specs.Switches.{lookedBytes}
 use Rattle.chainplater.specs.Verdict.{judgingBytes, fixedBy}
 use Rattle.chainplater.proofs.Bytes.{record-size, outcome-size, record-back, record-again, refused-bytes}
 use Rattle.chainplater.proofs.Bytes.{refused-write, flag-taken, flag-refused, same-refusal, same-bytes, judged-one}
-use Rattle.chainplater.proofs.Bytes.{caused-one, same-conditions, same-commands}
+use Rattle.chainplater.proofs.Bytes.{causes-one, same-conditions, same-commands}
 use Rattle.chainplater.proofs.Captures.{capture-fresh, capture-judged, capture-caused, capture-listed}
 use Rattle.chainplater.proofs.chainplater_fresh.Kinds as fresh-kinds
 use Rattle.chainplater.proofs.chainplater_fresh.Reads as fresh-fn
@@ -147,10 +147,10 @@ judged-unique : OneContent 2 judge-kinds.ps judge-kinds.r judge-fn.Post (λ κs 
 judged-unique κs args x y s t p q = same-bytes p q (judged-one _ _ _ _ _ p q)
 
 causes-unique : OneAnswer 4 causes-kinds.ps causes-kinds.r causes-fn.Post
-causes-unique κs args x y s t p q = same-refusal p q (caused-one p q)
+causes-unique κs args x y s t p q = same-refusal p q (causes-one p q)
 
 verdict-unique : OneContent 4 causes-kinds.ps causes-kinds.r causes-fn.Post (λ κs exit. now (exit .1 .1 .1 .1 .1 .1 .0))
-verdict-unique κs args x y s t p q = same-bytes p q (caused-one p q)
+verdict-unique κs args x y s t p q = same-bytes p q (causes-one p q)
 
 -- Of the tables of causes this holds but for the entries below the steps of an explained capture, where any causes will do
 -- under which the controller sends its rows.

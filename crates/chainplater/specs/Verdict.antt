@@ -25,8 +25,8 @@ abbrev pub Judged : ℕ → ℕ → ℕ → List ℕ → ℕ → List ℕ → Ty
 Judged n mask w capture refusal out = Told (Right n mask w capture) refusal out
 
 -- and of the one that comes with the tables, of conditions and of commands, as they were and as they are then
-abbrev pub Caused : ℕ → ℕ → ℕ → List ℕ → List ℕ → List ℕ → ℕ → List ℕ → List ℕ → List ℕ → Type 0
-Caused n mask w capture old old2 refusal new new2 out =
+abbrev pub CausesTold : ℕ → ℕ → ℕ → List ℕ → List ℕ → List ℕ → ℕ → List ℕ → List ℕ → List ℕ → Type 0
+CausesTold n mask w capture old old2 refusal new new2 out =
     Told (λ j. Causes n mask w capture old old2 j new new2) refusal out
 
 -- the entries of a table that are never chosen, by the bytes of the answer: those from the steps on, if the capture is

@@ -22,7 +22,7 @@ ghost use Rattle.book.specs.Writer.{writing, output};
 ghost use Rattle.chainplater.specs.Coder.{valueBytes, flag, decodedBytes, encodedBytes, encodingBytes};
 ghost use Rattle.chainplater.specs.Record.{recordIn, recordBytes, outcomeBytes};
 ghost use Rattle.chainplater.specs.Switches.{lookedBytes};
-ghost use Rattle.chainplater.specs.Verdict.{judgingBytes, Judged, Caused};
+ghost use Rattle.chainplater.specs.Verdict.{judgingBytes, Judged, CausesTold};
 ghost use Rattle.controller.specs.Settings.{making};
 ghost use Rattle.controller.specs.Step.{step};
 ghost use Rattle.explain.specs.Verdict.{told};
@@ -188,7 +188,7 @@ pub extern "C" fn chainplater_causes(
     commands: &mut [u16],
     out: &mut [u8; 3],
 ) -> u8
-    ensures { λ r. ⌜ Caused n mask wait (now (capture .entry)) (now (conditions .entry)) (now (commands .entry)) r (now (conditions .exit)) (now (commands .exit)) (now (out .exit)) ⌝ }
+    ensures { λ r. ⌜ CausesTold n mask wait (now (capture .entry)) (now (conditions .entry)) (now (commands .entry)) r (now (conditions .exit)) (now (commands .exit)) (now (out .exit)) ⌝ }
 {
     let verdict = explain::judge_causes(n, mask, wait, capture, conditions, commands);
     *out = verdict_bytes(verdict);

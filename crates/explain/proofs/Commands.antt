@@ -14,7 +14,7 @@ use Rattle.request.proofs.FirstCome.{same-one}
 use Rattle.controller.specs.Rules.{request, rankOfRequest, isCommand, held, isClear, given, replacesHeld}
 use Rattle.controller.specs.Refusals.{channelFits}
 use Rattle.controller.proofs.Apart.{none-rank}
-use Rattle.explain.specs.Cause.{rankHeld, commanded, numberOf}
+use Rattle.explain.specs.Cause.{rankHeld, commanded, commandNumber}
 use Rattle.explain.proofs.Ranking.{section-rank, on-section, on-protection}
 
 -- LO, FS and MS
@@ -77,16 +77,16 @@ module _ (n : ℕ) (x : Request) (carried : carries requests n (x .code) (x .cha
         high = rw (e, zero) (lit≤ tt);
       }
 
-  pub a-command : isCommand (x .code) ≡ true → Command n x (numberOf (x .code))
+  pub a-command : isCommand (x .code) ≡ true → Command n x (commandNumber (x .code))
   unfolding rankIn heldIn
   a-command h = go (command-cases (x .code) h)
     where
-      go : (x .code ≡ 0b1111) ⊎ (x .code ≡ 0b1110) ⊎ (x .code ≡ 0b1000) → Command n x (numberOf (x .code))
-      go (inl lo) = subst (Command n x) (sym (ap numberOf lo)) (lock-out lo)
+      go : (x .code ≡ 0b1111) ⊎ (x .code ≡ 0b1110) ⊎ (x .code ≡ 0b1000) → Command n x (commandNumber (x .code))
+      go (inl lo) = subst (Command n x) (sym (ap commandNumber lo)) (lock-out lo)
       go (inr (inl fs)) =
-          subst (Command n x) (sym (ap numberOf fs)) (on-some 3 0b1110 fs (lit≤ tt) refl refl refl refl (lit≤ tt))
+          subst (Command n x) (sym (ap commandNumber fs)) (on-some 3 0b1110 fs (lit≤ tt) refl refl refl refl (lit≤ tt))
       go (inr (inr ms)) =
-          subst (Command n x) (sym (ap numberOf ms)) (on-some 4 0b1000 ms (lit≤ tt) refl refl refl refl (lit≤ tt))
+          subst (Command n x) (sym (ap commandNumber ms)) (on-some 4 0b1000 ms (lit≤ tt) refl refl refl refl (lit≤ tt))
 
 -- the closed form for commands, taken apart
 pub commanded-by : (hold x : Request) → commanded hold (held x) ≡ true

@@ -19,7 +19,7 @@ use Rattle.controller.specs.declared.Controller.{Controller}
 use Rattle.controller.proofs.Keeping.{fresh-acceptable}
 use Rattle.basics.specs.Capture.{Row, rowsOf}
 use Rattle.explain.specs.Explained.{Cause, stepped, Sends, Explains, Explained}
-use Rattle.explain.specs.Verdict.{Judging, explainedAt, unexplainedAt, told, judgeFaults, Found, Answers, Right}
+use Rattle.explain.specs.Verdict.{Judging, explainedAt, unexplainedAt, told, judgeFaults, Found, RightBehind, Right}
 use Rattle.explain.specs.Scan.{Scanned, all, first, scanFrom}
 use Rattle.explain.specs.Trace.{start, live, next, verdictOf}
 use Rattle.explain.specs.declared.Records.{Records}
@@ -127,12 +127,12 @@ module _ (n mask w : ℕ) where
 
   -- one answer behind any refusals
   pub answer-one : (faults : List Check) (bytes : List ℕ) (j k : Judging)
-      → Answers faults n mask w bytes j → Answers faults n mask w bytes k → j ≡ k
-  unfolding Answers
+      → RightBehind faults n mask w bytes j → RightBehind faults n mask w bytes k → j ≡ k
+  unfolding RightBehind
   answer-one faults bytes j k = go (eqb (firstOf faults) 0) refl
     where
       go : (t : Bool) → eqb (firstOf faults) 0 ≡ t
-          → Answers faults n mask w bytes j → Answers faults n mask w bytes k → j ≡ k
+          → RightBehind faults n mask w bytes j → RightBehind faults n mask w bytes k → j ≡ k
       go true e h h′ = found-one (rowsOf bytes) j k (rw e at h) (rw e at h′)
       go false e h h′ =
           let p = rw e at h in
@@ -145,7 +145,7 @@ module _ (n mask w : ℕ) (bytes : List ℕ) (j : Judging) (right : Right n mask
   rows = rowsOf bytes
 
   found : Found n mask w rows j
-  unfolding Answers
+  unfolding RightBehind
   found = rw none at right
 
   pub explained-exact : (j ≡ explainedAt (length rows)) ↔ Explained n mask w rows

@@ -8,7 +8,7 @@ use lib.ListN.{length, take}
 use lib.Seq.{take-all}
 use Rattle.basics.specs.Capture.{Row, rowsOf}
 use Rattle.controller.specs.declared.Controller.{Controller}
-use Rattle.explain.specs.Filling.{conditionsAlong, commandsAlong, ended, settled, Wrote, Keeps, filledSteps, Fills}
+use Rattle.explain.specs.Filling.{conditionsAlong, commandsAlong, ended, settled, Stored, Keeps, filledSteps, Fills}
 use Rattle.explain.specs.Scan.{Scanned, all, first, scanFrom}
 use Rattle.explain.specs.Trace.{start, live, next, Fit, verdictOf, scanned}
 use Rattle.explain.specs.Verdict.{Judging}
@@ -58,8 +58,8 @@ module _ (s : Controller) (bytes : List ℕ) (room room2 : ℕ) (fit : Fit (star
 -- both ways together
 pub fills : {d : Records} {rows : List Row} {steps : ℕ} {old old2 between new new2 : List ℕ} {idle : Bool}
     → length rows ≡ steps → idle ≡ not (ended d rows .heard)
-    → Wrote steps (conditionsAlong d rows) old between → Wrote steps (settled idle (take steps between)) between new
-    → Wrote steps (commandsAlong d rows) old2 new2 → Fills d rows old old2 new new2
+    → Stored steps (conditionsAlong d rows) old between → Stored steps (settled idle (take steps between)) between new
+    → Stored steps (commandsAlong d rows) old2 new2 → Fills d rows old old2 new new2
 fills long e forward backward commands =
     record {
       conditions =

@@ -12,7 +12,7 @@ use Rattle.basics.proofs.Fitting.{settings-fit}
 use Rattle.basics.specs.Settings.{sectionsFit, maskFits}
 use Rattle.controller.specs.Settings.{fresh, settingsFaults}
 use Rattle.basics.specs.Capture.{rowsOf}
-use Rattle.explain.specs.Verdict.{Judging, refusedBy, Answers}
+use Rattle.explain.specs.Verdict.{Judging, refusedBy, RightBehind}
 use Rattle.explain.specs.Trace.{start, Fit, scanned}
 use Rattle.explain.proofs.Exact.{scan-right}
 
@@ -28,16 +28,16 @@ module _ (n mask w : ℕ) (bytes : List ℕ) (rest : List Check) where
   abbrev refusal : ℕ
   refusal = firstOf faults
 
-  refused-right : (refusal ≡ 0 → ⊥) → Answers faults n mask w bytes (refusedBy refusal)
-  unfolding Answers
+  refused-right : (refusal ≡ 0 → ⊥) → RightBehind faults n mask w bytes (refusedBy refusal)
+  unfolding RightBehind
   refused-right some = rw (ne-eqb refusal 0 some) refl
 
   -- refused for its settings
   pub settings-right : (k : ℕ) → k ≡ firstOf (settingsFaults n mask) → (firstOf (settingsFaults n mask) ≡ 0 → ⊥)
-      → Answers faults n mask w bytes (refusedBy k)
+      → RightBehind faults n mask w bytes (refusedBy k)
   settings-right k e some =
       let whole = first-before (settingsFaults n mask) rest some in
-      subst (λ (m : ℕ). Answers faults n mask w bytes (refusedBy m)) (whole ∙ sym e)
+      subst (λ (m : ℕ). RightBehind faults n mask w bytes (refusedBy m)) (whole ∙ sym e)
       (refused-right (λ z. some (sym whole ∙ z)))
 
   module _ (fits : sectionsFit n ≡ true) (mask-fits : maskFits n mask ≡ true) where
@@ -45,24 +45,24 @@ module _ (n mask w : ℕ) (bytes : List ℕ) (rest : List Check) where
     behind = first-behind (settingsFaults n mask) rest refl (rw (fits, mask-fits))
 
     -- refused for what is asked behind them
-    pub rest-right : (k : ℕ) → k ≡ firstOf rest → (k ≡ 0 → ⊥) → Answers faults n mask w bytes (refusedBy k)
+    pub rest-right : (k : ℕ) → k ≡ firstOf rest → (k ≡ 0 → ⊥) → RightBehind faults n mask w bytes (refusedBy k)
     rest-right k e some =
         let whole : refusal ≡ k = behind ∙ sym e in
-        subst (λ (m : ℕ). Answers faults n mask w bytes (refusedBy m)) whole (refused-right (λ z. some (sym whole ∙ z)))
+        subst (λ (m : ℕ). RightBehind faults n mask w bytes (refusedBy m)) whole (refused-right (λ z. some (sym whole ∙ z)))
 
-    pub scanned-right : firstOf rest ≡ 0 → Answers faults n mask w bytes (scanned (fresh n mask w) bytes)
-    unfolding Answers
+    pub scanned-right : firstOf rest ≡ 0 → RightBehind faults n mask w bytes (scanned (fresh n mask w) bytes)
+    unfolding RightBehind
     scanned-right none = rw (behind, none) (scan-right n mask w fits mask-fits (rowsOf bytes))
 
-  pub right-refused : (j : Judging) → Answers faults n mask w bytes j → (refusal ≡ 0 → ⊥) → j ≡ refusedBy refusal
-  unfolding Answers
+  pub right-refused : (j : Judging) → RightBehind faults n mask w bytes j → (refusal ≡ 0 → ⊥) → j ≡ refusedBy refusal
+  unfolding RightBehind
   right-refused j right some = rw (ne-eqb refusal 0 some) at right
 
   -- there is a right answer
-  pub right-some : (j : Judging) × Answers faults n mask w bytes j
+  pub right-some : (j : Judging) × RightBehind faults n mask w bytes j
   right-some = go (eqb refusal 0) refl
     where
-      go : (t : Bool) → eqb refusal 0 ≡ t → (j : Judging) × Answers faults n mask w bytes j
+      go : (t : Bool) → eqb refusal 0 ≡ t → (j : Judging) × RightBehind faults n mask w bytes j
       go true e =
           let none = eqb-true refusal 0 e in
           let parts = none-both (settingsFaults n mask) rest refl none in

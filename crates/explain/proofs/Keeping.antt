@@ -9,7 +9,7 @@ use lib.ListN.{length, take, drop, set, length-set, drop-of-length-le}
 use lib.Seq.{length-take-le, drop-cons, append-snoc, getD-take, take-suc-set, drop-set-lt, drop-drop}
 use Rattle.basics.specs.Capture.{Row, rowsOf}
 use Rattle.pair.specs.Marks.{channelOf}
-use Rattle.explain.specs.Filling.{conditionsKept, commandKept, followed, along, ended, Wrote, Keeps}
+use Rattle.explain.specs.Filling.{conditionsKept, commandKept, followed, along, ended, Stored, Keeps}
 use Rattle.explain.specs.Scan.{all, first, scanFrom}
 use Rattle.explain.specs.Trace.{live, next, Fit}
 use Rattle.explain.specs.declared.Records.{Records}
@@ -67,7 +67,7 @@ module _ {f : Records → Row → ℕ} {begin possible : Records} {rows : List R
             ∙ ap (λ (i : ℕ). drop i old) (add-one step);
       }
 
-  kept-done : drop step rows ≡ [] → Wrote step (along f begin rows) old table
+  kept-done : drop step rows ≡ [] → Stored step (along f begin rows) old table
   kept-done none =
       record {
         written =
@@ -213,8 +213,8 @@ module _ {bytes : List ℕ} {steps : ℕ} {begin possible : Records} {old old2 t
     keeping-ended =
         k .heard ∙ ap (λ (d : Records). d .heard) (ap (ended (k .scan)) (sym none-left) ∙ k .ends)
 
-    pub conditions-kept : Wrote steps (along conditionsOf begin rows) old table
+    pub conditions-kept : Stored steps (along conditionsOf begin rows) old table
     conditions-kept = rw is-end at (kept-done (k .conditions) none-left)
 
-    pub commands-kept : Wrote steps (along commandsOf begin rows) old2 table2
+    pub commands-kept : Stored steps (along commandsOf begin rows) old2 table2
     commands-kept = rw is-end at (kept-done (k .commands) none-left)

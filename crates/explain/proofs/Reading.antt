@@ -10,7 +10,7 @@ use lib.Dec.{lit<}
 use borrow.Author.Tests.{lt-ltb}
 use Rattle.explain.specs.Cause.{only}
 use Rattle.explain.specs.Causes.{conditionsIn, noOtherBit}
-use Rattle.explain.specs.Filling.{heardPlace, marked, heardIn, failedIn, unmarked}
+use Rattle.explain.specs.Filling.{heardPlace, withMarks, heardIn, failedIn, unmarked}
 
 -- a word whose sections are all good
 good-word : (k : ℕ) → conditionsIn k 0 ≡ only k 0 0
@@ -44,19 +44,19 @@ bad-word-fits n c v inside small =
 
 -- the marks, and the word without them
 module _ (word : ℕ) (low : word < heardPlace) where
-  pub heard-back : (heard failed : Bool) → heardIn (marked word heard failed) ≡ heard
+  pub heard-back : (heard failed : Bool) → heardIn (withMarks word heard failed) ≡ heard
   heard-back true true = let q : (word + heardPlace + 0x80000000) / heardPlace % 2 ≡ 1 = omega arith in rw q
   heard-back true false = let q : (word + heardPlace + 0) / heardPlace % 2 ≡ 1 = omega arith in rw q
   heard-back false true = let q : (word + 0 + 0x80000000) / heardPlace % 2 ≡ 0 = omega arith in rw q
   heard-back false false = let q : (word + 0 + 0) / heardPlace % 2 ≡ 0 = omega arith in rw q
 
-  pub failed-back : (heard failed : Bool) → failedIn (marked word heard failed) ≡ failed
+  pub failed-back : (heard failed : Bool) → failedIn (withMarks word heard failed) ≡ failed
   failed-back true true = let q : (word + heardPlace + 0x80000000) / 0x80000000 ≡ 1 = omega arith in rw q
   failed-back true false = let q : (word + heardPlace + 0) / 0x80000000 ≡ 0 = omega arith in rw q
   failed-back false true = let q : (word + 0 + 0x80000000) / 0x80000000 ≡ 1 = omega arith in rw q
   failed-back false false = let q : (word + 0 + 0) / 0x80000000 ≡ 0 = omega arith in rw q
 
-  pub word-back : (heard failed : Bool) → unmarked (marked word heard failed) ≡ word
+  pub word-back : (heard failed : Bool) → unmarked (withMarks word heard failed) ≡ word
   word-back true true = omega arith
   word-back true false = omega arith
   word-back false true = omega arith

@@ -6,7 +6,7 @@ use Prim.Native.Nat.{ℕ, suc, _-_, _≤_, _<_}
 use native.Mathlib.Omega.{arith}
 use lib.ListN.{length, getD, take, drop, set, length-set, drop-of-length-le}
 use lib.Seq.{length-take-le, drop-cons, getD-take, getD-set-same, take-set-le, take-set-lt, drop-set-lt, take-take}
-use Rattle.explain.specs.Filling.{idleBack, settledWord, idleBefore, settled, Wrote}
+use Rattle.explain.specs.Filling.{idleBack, settledWord, idleBefore, settled, Stored}
 
 pub record Settling (idle : Bool) (steps : ℕ) (old table : List ℕ) (behind : Bool) (at : ℕ) : Type 0 where
   pub within : at ≤ steps
@@ -98,7 +98,7 @@ module _ {idle : Bool} {steps : ℕ} {old table : List ℕ} {behind : Bool} {at 
           state = f ∙ (λ k. idleBack (p .state k) word) ∙ ap (idleBefore idle) (sym from-here);
         }
 
-  pub settling-done : at ≤ 0 → Wrote steps (settled idle (take steps old)) old table
+  pub settling-done : at ≤ 0 → Stored steps (settled idle (take steps old)) old table
   settling-done h =
       let none : at ≡ 0 = omega arith in
       record { written = rw none at (p .settles); behind = p .past }

@@ -21,7 +21,7 @@ use Rattle.explain.specs.Explained.{Explains}
 use Rattle.explain.specs.Filling.{filledSteps, Fills}
 use Rattle.explain.specs.Scan.{Scanned, all, first, scanFrom}
 use Rattle.explain.specs.Trace.{start, live, next, verdictOf, scanned}
-use Rattle.explain.specs.Verdict.{Judging, refusedBy, judgeFaults, Answers, Right}
+use Rattle.explain.specs.Verdict.{Judging, refusedBy, judgeFaults, RightBehind, Right}
 use Rattle.explain.specs.declared.Records.{Records}
 use Rattle.explain.proofs.Witness.{or-false}
 use Rattle.explain.proofs.Rows.{rows-long}
@@ -40,7 +40,7 @@ module _ (n mask w : ℕ) (bytes old old2 : List ℕ) where
   abbrev pub rest : List Check
   rest = sizeFaults (length bytes) ++ roomFaults (length bytes / 4) (length old) (length old2)
 
-  pub refused-causes : (k : ℕ) → Answers (settingsFaults n mask ++ rest) n mask w bytes (refusedBy k)
+  pub refused-causes : (k : ℕ) → RightBehind (settingsFaults n mask ++ rest) n mask w bytes (refusedBy k)
       → Causes n mask w bytes old old2 (refusedBy k) old old2
   refused-causes k right = record { verdict = right; tables = (refl, refl) }
 
@@ -79,7 +79,7 @@ module _ {n mask w : ℕ} {bytes old old2 : List ℕ} {j : Judging} {new new2 : 
 
   -- an explained capture has all its steps
   explained-all : eqb (j .verdict) 1 ≡ true → j .at ≡ steps
-  unfolding Answers
+  unfolding RightBehind
   explained-all is = go (eqb (firstOf faults) 0) refl
     where
       faults : List Check
@@ -118,7 +118,7 @@ module _ {n mask w : ℕ} {bytes old old2 : List ℕ} {j : Judging} {new new2 : 
 
   -- where neither table is short the verdict is the judge's
   pub judged : steps ≤ length old → steps ≤ length old2 → Right n mask w bytes j
-  unfolding Answers
+  unfolding RightBehind
   judged room room2 = go (eqb before 0) refl
     where
       before : ℕ

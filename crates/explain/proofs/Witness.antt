@@ -25,7 +25,7 @@ use Rattle.controller.specs.Step.{protection}
 use Rattle.controller.proofs.Apart.{none-rank}
 use Rattle.controller.proofs.Candidates.{local-one}
 use Rattle.explain.specs.Explained.{Cause}
-use Rattle.explain.specs.Cause.{commanded, conditioned, waited, arises, unseen, only, badFor, louder, deciding, numberOf}
+use Rattle.explain.specs.Cause.{commanded, conditioned, waited, arises, unseen, only, badFor, louder, deciding, commandNumber}
 use Rattle.explain.specs.Cause.{commandFor, channelFor, isLouder, causeFor}
 use Rattle.explain.proofs.Ranking.{section-rank, on-section, on-protection}
 use Rattle.explain.proofs.Ranking.{fail-rank, degrade-rank}
@@ -167,7 +167,7 @@ module _ (mask w left : ℕ) (last : Request) where
       by : (isCommand (x .code) ≡ true) × ((x ≡ held last) ⊎ (replacesHeld (held last) x ≡ true))
       by = commanded-by (held last) x h
 
-      k : Command n x (numberOf (x .code))
+      k : Command n x (commandNumber (x .code))
       k = a-command n x carried (by .0)
 
       high : 3 ≤ rankOfRequest x

@@ -96,8 +96,8 @@ abbrev pub deciding : ℕ → Request → ℕ → ℕ
 deciding theirs x rank = if eqb (x .code) reverseCode then theirs else rank
 
 -- the number of a command in the paper's list
-abbrev pub numberOf : ℕ → ℕ
-numberOf code =
+abbrev pub commandNumber : ℕ → ℕ
+commandNumber code =
     if eqb code lockoutCode then 2
     else if eqb code forcedCode then 3
     else 4
@@ -105,7 +105,7 @@ numberOf code =
 -- the new command; a clear where something else would be louder; or none
 abbrev pub commandFor : Request → Request → Bool → ℕ
 commandFor last x loud =
-    if isNew last x then numberOf (x .code)
+    if isNew last x then commandNumber (x .code)
     else if not (goesOn x) && loud then 1
     else 0
 

@@ -11,7 +11,7 @@ use Rattle.basics.specs.First.{Check, _when_}
 use Rattle.basics.specs.Table.{every}
 use Rattle.controller.specs.Settings.{fresh}
 use Rattle.explain.specs.Explained.{Cause, Explains}
-use Rattle.explain.specs.Verdict.{Judging, judgeFaults, Answers}
+use Rattle.explain.specs.Verdict.{Judging, judgeFaults, RightBehind}
 
 -- the conditions in a word, of as many sections: two bits per section, section 0 lowest
 abbrev pub conditionsIn : ℕ → ℕ → List ℕ
@@ -59,7 +59,7 @@ Filled n mask w bytes j old old2 new new2 =
 
 -- what is promised: the judge's right answer behind these refusals, and the tables by it
 pub record Causes (n mask w : ℕ) (bytes old old2 : List ℕ) (j : Judging) (new new2 : List ℕ) : Type 0 where
-  pub verdict : Answers (causesFaults n mask (length bytes) (length old) (length old2)) n mask w bytes j
+  pub verdict : RightBehind (causesFaults n mask (length bytes) (length old) (length old2)) n mask w bytes j
   pub tables : Filled n mask w bytes j old old2 new new2
 
 -- the entries of a table that are never chosen: those from the steps on, if the capture is explained, else all

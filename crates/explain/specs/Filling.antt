@@ -27,8 +27,8 @@ abbrev pub failedPlace : ℕ
 failedPlace = 0x80000000
 
 -- a word of conditions with its marks, and each of them in it
-abbrev pub marked : ℕ → Bool → Bool → ℕ
-marked word heard failed =
+abbrev pub withMarks : ℕ → Bool → Bool → ℕ
+withMarks word heard failed =
     word + (if heard then heardPlace else 0) + (if failed then failedPlace else 0)
 
 abbrev pub heardIn : ℕ → Bool
@@ -45,7 +45,7 @@ unmarked word = word % heardPlace
 abbrev pub conditionsKept : Controller → Bool → ℕ → ℕ
 conditionsKept s heard sentK1 =
     let x = asked sentK1 in
-    marked (badFor (s .mask) x * 4 ^ (x .channel)) heard (mayHide x)
+    withMarks (badFor (s .mask) x * 4 ^ (x .channel)) heard (mayHide x)
 
 abbrev pub commandKept : Controller → ℕ → ℕ → ℕ
 commandKept s k1 sentK1 =
@@ -102,7 +102,7 @@ settled idle [] = []
 settled idle (word ∷ words) = settledWord (idleBefore idle words) word ∷ settled idle words
 
 -- a table whose first entries, as many as the steps, are written
-pub record Wrote (steps : ℕ) (words old new : List ℕ) : Type 0 where
+pub record Stored (steps : ℕ) (words old new : List ℕ) : Type 0 where
   pub written : take steps new ≡ words
   pub behind : drop steps new ≡ drop steps old
 
@@ -119,5 +119,5 @@ abbrev pub filledSteps : Judging → ℕ → ℕ
 filledSteps j steps = if eqb (j .verdict) 1 then steps else 0
 
 pub record Fills (d : Records) (rows : List Row) (old old2 new new2 : List ℕ) : Type 0 where
-  pub conditions : Wrote (length rows) (settled (not (ended d rows .heard)) (conditionsAlong d rows)) old new
-  pub commands : Wrote (length rows) (commandsAlong d rows) old2 new2
+  pub conditions : Stored (length rows) (settled (not (ended d rows .heard)) (conditionsAlong d rows)) old new
+  pub commands : Stored (length rows) (commandsAlong d rows) old2 new2

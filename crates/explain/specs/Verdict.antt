@@ -50,10 +50,10 @@ Found n mask w rows j =
     × (Explained n mask w (take (i + 1) rows) → ⊥))
 
 -- the right answer for a capture, where these are the refusals: the first that applies, or what is found
-unfoldable pub Answers : List Check → ℕ → ℕ → ℕ → List ℕ → Judging → Type 0
-Answers faults n mask w bytes j =
+unfoldable pub RightBehind : List Check → ℕ → ℕ → ℕ → List ℕ → Judging → Type 0
+RightBehind faults n mask w bytes j =
     if eqb (firstOf faults) 0 then Found n mask w (rowsOf bytes) j else (j ≡ refusedBy (firstOf faults))
 
 -- that of the judge
 abbrev pub Right : ℕ → ℕ → ℕ → List ℕ → Judging → Type 0
-Right n mask w bytes j = Answers (judgeFaults n mask (length bytes)) n mask w bytes j
+Right n mask w bytes j = RightBehind (judgeFaults n mask (length bytes)) n mask w bytes j

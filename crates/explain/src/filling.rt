@@ -22,7 +22,7 @@ use pair::mark::alarm;
 use pair::table::numbers;
 ghost use Prim.Native.Nat.{_%_, _/_, _≤_, _<_};
 ghost use Rattle.basics.specs.Capture.{row, rowsOf, most};
-ghost use Rattle.explain.specs.Filling.{heardPlace, marked, conditionsKept, commandKept, followed, conditionsAlong, commandsAlong, ended, idleBack, settledWord, settled, Wrote, Keeps, filledSteps, Fills};
+ghost use Rattle.explain.specs.Filling.{heardPlace, withMarks, conditionsKept, commandKept, followed, conditionsAlong, commandsAlong, ended, idleBack, settledWord, settled, Stored, Keeps, filledSteps, Fills};
 ghost use Rattle.explain.specs.Trace.{start, Fit, scanned};
 ghost use Rattle.explain.specs.Verdict.{told};
 ghost use Rattle.pair.specs.Marks.{channelOf};
@@ -36,9 +36,9 @@ const HEARD: u32 = 0x4000_0000;
 
 const FAILED: u32 = 0x8000_0000;
 
-fn marked(word: u32, heard: bool, failed: bool) -> u32
+fn with_marks(word: u32, heard: bool, failed: bool) -> u32
     requires { ⌜ word < heardPlace ⌝ }
-    ensures { λ r. ⌜ r ≡ marked word heard failed ⌝ }
+    ensures { λ r. ⌜ r ≡ withMarks word heard failed ⌝ }
 {
     let first = if heard { HEARD } else { 0 };
     let second = if failed { FAILED } else { 0 };
@@ -51,7 +51,7 @@ fn conditions_kept(s: Controller, heard: bool, sent1: u8) -> u32
 {
     let x = asked(sent1);
     let word = conditions_word(s.mask, x);
-    marked(word, heard, may_hide(x))
+    with_marks(word, heard, may_hide(x))
 }
 
 fn command_kept(table: &[u16; 256], s: Controller, k1: u8, sent1: u8) -> u16
@@ -100,8 +100,8 @@ fn keep(
 ) -> bool
     requires { ⌜ Keeps (start s) (now capture) steps (length (now conditions)) (length (now commands)) ⌝ }
     ensures { λ r. ⌜ r ≡ ended (start s) (take steps (rowsOf (now (capture .entry)))) .heard ⌝ }
-    ensures { λ _. ⌜ Wrote steps (conditionsAlong (start s) (take steps (rowsOf (now (capture .entry))))) (now (conditions .entry)) (now (conditions .exit)) ⌝ }
-    ensures { λ _. ⌜ Wrote steps (commandsAlong (start s) (take steps (rowsOf (now (capture .entry))))) (now (commands .entry)) (now (commands .exit)) ⌝ }
+    ensures { λ _. ⌜ Stored steps (conditionsAlong (start s) (take steps (rowsOf (now (capture .entry))))) (now (conditions .entry)) (now (conditions .exit)) ⌝ }
+    ensures { λ _. ⌜ Stored steps (commandsAlong (start s) (take steps (rowsOf (now (capture .entry))))) (now (commands .entry)) (now (commands .exit)) ⌝ }
 {
     let table = numbers();
     let mut possible = Records {
@@ -152,7 +152,7 @@ fn idle_back(idle: bool, word: u32) -> bool
 // Back from the last step, behind which the record has the idle pair accepted or not.
 fn settle(idle: bool, steps: usize, conditions: &mut [u32])
     requires { ⌜ steps ≤ length (now conditions) ⌝ }
-    ensures { λ _. ⌜ Wrote steps (settled idle (take steps (now (conditions .entry)))) (now (conditions .entry)) (now (conditions .exit)) ⌝ }
+    ensures { λ _. ⌜ Stored steps (settled idle (take steps (now (conditions .entry)))) (now (conditions .entry)) (now (conditions .exit)) ⌝ }
 {
     let mut behind = idle;
     let mut at = steps;
@@ -175,6 +175,7 @@ fn filled_steps(verdict: Verdict, steps: usize) -> usize
     }
 }
 
+// The verdict first, since nothing may be written before it is known; then forward, then back.
 pub(crate) fn fill(
     s: Controller,
     capture: &[u8],

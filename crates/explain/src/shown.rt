@@ -8,7 +8,7 @@ use controller::command::held;
 use controller::section::condition;
 use request::Request;
 ghost use Prim.Native.Nat.{_+_, _*_, _^_, _≤_};
-ghost use Rattle.explain.specs.Cause.{badFor, louder, deciding, numberOf, commandFor, channelFor};
+ghost use Rattle.explain.specs.Cause.{badFor, louder, deciding, commandNumber, commandFor, channelFor};
 ghost use mathlib.Core.Path.{_≡_};
 
 fn bad_for(mask: u16, x: Request) -> u8
@@ -47,8 +47,8 @@ pub(crate) fn deciding(theirs: u8, x: Request, rank: u8) -> u8
 }
 
 // As the paper numbers the commands: 2 LO, 3 FS, 4 MS.
-fn number_of(code: u8) -> u8
-    ensures { λ r. ⌜ r ≡ numberOf code ⌝ }
+fn command_number(code: u8) -> u8
+    ensures { λ r. ⌜ r ≡ commandNumber code ⌝ }
 {
     if code == LOCKOUT {
         return 2;
@@ -67,7 +67,7 @@ pub(crate) fn command_word(last: Request, x: Request, loud: bool) -> u16
     let commands = after.code != NOTHING;
     let same = (x.code == last.code) & (x.channel == last.channel);
     if commands & !same {
-        let number = number_of(x.code);
+        let number = command_number(x.code);
         return 256 * (number as u16) + x.channel as u16;
     }
     let goes_on = commands | (x.code == WAIT_TO_RESTORE);

@@ -14,8 +14,8 @@ conditions-word-requires c κs = rw (c .asked .ensures) (c .before .pre)
 may-hide-requires : tie.Need-may-hide-requires
 may-hide-requires c κs = search needs
 
-marked-requires : tie.Need-marked-requires
-marked-requires c κs =
+with-marks-requires : tie.Need-with-marks-requires
+with-marks-requires c κs =
     let start = c .before .before .before in
     let a = start .args in
     rw (c .before .conditions-word .ensures, c .before .before .asked .ensures)
@@ -24,7 +24,7 @@ marked-requires c κs =
 returns : tie.Need-returns
 returns c =
     rw (
-      c .marked .ensures,
+      c .with-marks .ensures,
       c .before .may-hide .ensures,
       c .before .before .conditions-word .ensures,
       c .before .before .before .asked .ensures,
@@ -33,4 +33,4 @@ returns c =
 pub conditions-kept-spec : {M : Type 1} → statement M
 conditions-kept-spec =
     tie.close
-    (tie.spec asked-requires conditions-word-requires may-hide-requires marked-requires returns)
+    (tie.spec asked-requires conditions-word-requires may-hide-requires with-marks-requires returns)

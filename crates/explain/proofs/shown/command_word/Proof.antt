@@ -7,8 +7,8 @@ use Rattle.explain.proofs.shown.command_word.Tie as tie
 held-requires : tie.Need-held-requires
 held-requires c κs = search needs
 
-number-of-requires : tie.Need-number-of-requires
-number-of-requires c κs = search needs
+command-number-requires : tie.Need-command-number-requires
+command-number-requires c κs = search needs
 
 cast-result : tie.Need-cast-result
 cast-result c = search needs
@@ -27,7 +27,7 @@ returns c =
     let which = c .before .before in
     let held = which .before .before .before .before .before .before .held .ensures in
     let new = rw held at (which .if1 .taken) in
-    simp (← c .before .number-of .ensures, new) (search tests)
+    simp (← c .before .command-number .ensures, new) (search tests)
 
 returns-2 : tie.Need-returns-2
 returns-2 c =
@@ -50,7 +50,7 @@ command-word-spec =
     tie.close
     (tie.spec
     held-requires
-    number-of-requires
+    command-number-requires
     cast-result
     mul-result
     cast-result-2

@@ -1,12 +1,12 @@
--- `marked` meets its contract.
+-- `with_marks` meets its contract.
 use mathlib.Core.Path.{_≡_}
 use mathlib.Core.Logic.{⊎-elim}
 use Prim.Native.Nat.{_+_, _≤_}
 use native.Mathlib.Omega.{arith}
 use Rattle.basics.specs.Choice.{if_then_else_}
 use Rattle.explain.specs.Filling.{heardPlace, failedPlace}
-use Rattle.explain.proofs.filling.marked.Statement.{statement}
-use Rattle.explain.proofs.filling.marked.Tie as tie
+use Rattle.explain.proofs.filling.with_marks.Statement.{statement}
+use Rattle.explain.proofs.filling.with_marks.Tie as tie
 
 heard-is : (c : tie.Joined1) → c .if1 .first ≡ (if c .before .args .heard then heardPlace else 0)
 heard-is c = ⊎-elim (λ w. rw (w .0 .taken) (w .1)) (λ w. rw (w .0 .left) (w .1)) (c .if1 .came)
@@ -33,5 +33,5 @@ returns c =
     let joined = c .before .before in
     λ i. joined .before .before .args .word + heard-is (joined .before) i + failed-is joined i
 
-pub marked-spec : {M : Type 1} → statement M
-marked-spec = tie.close (tie.spec add-result add-result-2 returns)
+pub with-marks-spec : {M : Type 1} → statement M
+with-marks-spec = tie.close (tie.spec add-result add-result-2 returns)
