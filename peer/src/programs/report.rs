@@ -268,10 +268,7 @@ mod tests {
         written(&mut report) + &report.progress()
     }
 
-    /// In the line of the second capture, and in a line of a book that has none.
-    #[test]
-    fn differences_are_shown_in_full_and_in_order() {
-        let judged = "\
+    const JUDGED_COUNTS: &str = "\
 group       books  captures  explained  unexplained  refused books
 paper           2         2          1            1              1
 total           2         2          1            1              1
@@ -279,14 +276,14 @@ total           2         2          1            1              1
 paper shows [Explained, Unexplained, RefusedBook], not [Explained, Unexplained]
 2 differences
 2 of 2 books, 2 captures, 2 differences";
-        let listed = "\
+    const LISTED_COUNTS: &str = "\
 group       books   changes  captures   still  refused books
 paper           2         3         2       0              1
 total           2         3         2       0              1
 3 changes, 100000 are due
 2 differences
 2 of 2 books, 3 changes, 2 differences";
-        let caused = "\
+    const CAUSED_COUNTS: &str = "\
 group       books     steps  explained  unexplained  refused books
 paper           2         3          1            1              1
 total           2         3          1            1              1
@@ -294,10 +291,14 @@ total           2         3          1            1              1
 paper shows [Explained, Unexplained, RefusedBook], not [Explained, Unexplained]
 2 differences
 2 of 2 books, 4 lines, 2 differences";
+
+    /// In the line of the second capture, and in a line of a book that has none.
+    #[test]
+    fn differences_are_shown_in_full_and_in_order() {
         for (comparison, row, told, counts) in [
-            (&JUDGED, 1, " n 2, mask 0, W 3", judged),
-            (&LISTED, 2, "", listed),
-            (&CAUSED, 3, " n 2, mask 0, W 3", caused),
+            (&JUDGED, 1, " n 2, mask 0, W 3", JUDGED_COUNTS),
+            (&LISTED, 2, "", LISTED_COUNTS),
+            (&CAUSED, 3, " n 2, mask 0, W 3", CAUSED_COUNTS),
         ] {
             let expected = format!(
                 "\
