@@ -5,5 +5,6 @@ pub mod First
 pub mod Bytes
 pub mod Fields
 pub mod Fitting
+pub mod Rows
 pub mod One
 mod Theorems

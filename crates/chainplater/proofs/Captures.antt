@@ -16,7 +16,7 @@ use Rattle.basics.proofs.Table.{at-entry}
 use Rattle.controller.specs.Settings.{fresh, settingsFaults, making}
 use Rattle.explain.specs.Causes.{Causes}
 use Rattle.explain.specs.Verdict.{Judging, judgeFaults, RightBehind, Right}
-use Rattle.explain.proofs.Rows.{rows-long}
+use Rattle.basics.proofs.Rows.{rows-long}
 use Rattle.explain.proofs.Tables.{judged}
 use Rattle.switches.specs.Extend.{extending}
 use Rattle.switches.proofs.Grown.{afresh-all}

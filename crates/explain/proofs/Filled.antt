@@ -13,7 +13,7 @@ use Rattle.explain.specs.Scan.{Scanned, all, first, scanFrom}
 use Rattle.explain.specs.Trace.{start, live, next, Fit, verdictOf, scanned}
 use Rattle.explain.specs.Verdict.{Judging}
 use Rattle.explain.specs.declared.Records.{Records}
-use Rattle.explain.proofs.Rows.{rows-long}
+use Rattle.basics.proofs.Rows.{rows-long}
 use Rattle.explain.proofs.Keeping.{first-open}
 
 -- a scan that takes in all rows counts them

@@ -32,7 +32,7 @@ module _ (s : Controller) where
   unfolding arises
   plain x command none section wait = rw command (rw (none, section, wait))
 
-  reverse-plain : (x : Request) → x .code ≡ 0b0010 → localIn s x ≡ false
+  pub reverse-plain : (x : Request) → x .code ≡ 0b0010 → localIn s x ≡ false
   reverse-plain x code =
       plain x (ap isCommand code) (ap (λ (k : ℕ). eqb k 0b0000) code) (go (high (s .mask) (x .channel)))
       (ap (λ (k : ℕ). eqb k 0b0110) code)
@@ -42,7 +42,7 @@ module _ (s : Controller) where
       go true = rw code (and-false (leb 1 (x .channel)))
       go false = rw code (and-false (leb 1 (x .channel)))
 
-  protection-plain : (x : Request) → x .code ≡ 0b1101 → x .channel ≡ 0 → localIn s x ≡ false
+  pub protection-plain : (x : Request) → x .code ≡ 0b1101 → x .channel ≡ 0 → localIn s x ≡ false
   protection-plain x code channel =
       plain x (ap isCommand code) (ap (λ (k : ℕ). eqb k 0b0000) code) (rw (channel, code)) (ap (λ (k : ℕ). eqb k 0b0110) code)
 
@@ -138,7 +138,7 @@ module _ (d : Records) (r : Row) (goes : live (next d r) ≡ true) where
           absurd (false≢true (sym nobody ∙ is))
 
   -- what is sent is RR, or SF0, or a local request
-  sent-local : (x .code ≡ 0b0010) ⊎ ((x .channel ≡ 0) × (x .code ≡ 0b1101)) ⊎ (local ≡ true)
+  pub sent-local : (x .code ≡ 0b0010) ⊎ ((x .channel ≡ 0) × (x .code ≡ 0b1101)) ⊎ (local ≡ true)
   unfolding unseen arises
   sent-local = ⊎-elim (λ way. ⊎-elim inl (λ is. inr (inr is)) (opened-by (way .0) x (r .sentK2) local (way .1))) by-hidden one-way
     where

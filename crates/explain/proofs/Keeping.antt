@@ -15,7 +15,7 @@ use Rattle.explain.specs.Trace.{live, next, Fit}
 use Rattle.explain.specs.declared.Records.{Records}
 use Rattle.explain.proofs.Followed.{followed-live}
 use Rattle.explain.proofs.Ranked.{next-fit}
-use Rattle.explain.proofs.Rows.{rows-long, rowAt, row-at}
+use Rattle.basics.proofs.Rows.{rows-long, rowAt, row-at}
 
 -- a scan that takes in all rows leaves something open behind the first
 pub first-open : (i k : ℕ) (d : Records) (r : Row) (rows : List Row) → scanFrom next live i d (r ∷ rows) ≡ all k

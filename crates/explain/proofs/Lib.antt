@@ -1,4 +1,4 @@
--- Theorems is the front door; the rest are the laws behind it, three of them for the door for C and Rust too.
+-- Theorems is the front door; the rest are the laws behind it, two of them for the door for C and Rust too.
 mod Scanning
 mod Ranking
 mod Single
@@ -12,10 +12,11 @@ mod Reached
 mod Possible
 pub mod Exact
 mod Ranked
-pub mod Rows
+mod Followed
+mod Repeating
+mod Passing
 mod Walking
 mod Judged
-mod Followed
 mod Words
 mod Reading
 mod Keeping

@@ -24,7 +24,7 @@ use Rattle.explain.specs.Trace.{start, live, next, verdictOf, scanned}
 use Rattle.explain.specs.Verdict.{Judging, refusedBy, judgeFaults, RightBehind, Right}
 use Rattle.explain.specs.declared.Records.{Records}
 use Rattle.explain.proofs.Witness.{or-false}
-use Rattle.explain.proofs.Rows.{rows-long}
+use Rattle.basics.proofs.Rows.{rows-long}
 use Rattle.explain.proofs.Exact.{answer-one}
 use Rattle.explain.proofs.Judged.{scanned-right}
 use Rattle.explain.proofs.Explaining.{filled-shown}

@@ -1,11 +1,11 @@
 -- The front door: what is proved of the judge, each theorem in full with the line that cites its proof.
 use mathlib.Core.Path.{_≡_, refl}
 use mathlib.Core.Bool.{Bool, true, false}
-use mathlib.Core.List.{List}
+use mathlib.Core.List.{List, _∷_}
 use mathlib.Core.Logic.{_↔_, _⊎_, inl}
 use Prim.Native.Nat.{ℕ, _+_, _≤_, _<_}
 use lib.Dec.{eqb}
-use lib.ListN.{length, take}
+use lib.ListN.{length, take, drop}
 use denote.Ref.{now}
 use Rattle.basics.specs.First.{firstOf}
 use Rattle.basics.specs.Table.{every}
@@ -15,7 +15,7 @@ use Rattle.pair.specs.Request.{requests, carries}
 use Rattle.pair.specs.Marks.{alarm}
 use Rattle.request.specs.declared.Request.{Request}
 use Rattle.controller.specs.Settings.{idleK1, idleK2, fresh}
-use Rattle.controller.specs.Rules.{noRequest}
+use Rattle.controller.specs.Rules.{noRequest, asked, isWait}
 use Rattle.controller.specs.Refusals.{acceptable}
 use Rattle.controller.specs.Step.{protection}
 use Rattle.controller.specs.declared.Controller.{Controller}
@@ -24,12 +24,16 @@ use Rattle.explain.specs.Explained.{Cause, stepped, Sends, Explains, Exp
 use Rattle.explain.specs.Causes.{noOtherBit, causesIn, Causes, fixedIn}
 use Rattle.explain.specs.Verdict.{Judging, explainedAt, unexplainedAt, refusedBy, told, judgeFaults, Right}
 use Rattle.explain.specs.Lines.{lines, AllRight}
-use Rattle.explain.specs.Trace.{idled, start, live, next}
+use Rattle.repeats.specs.Repeats.{agreeing}
+use Rattle.explain.specs.Scan.{scanFrom}
+use Rattle.explain.specs.Trace.{idled, start, live, next, passes, passed}
 use Rattle.explain.specs.declared.Records.{Records}
 use Rattle.explain.proofs.OneStep.{CausedBy, Caused, Open, Hidden, shownBy, open-shown, hidden-shown, one-step, one-hidden-step}
 use Rattle.explain.proofs.Alarmed.{alarm-exact}
 use Rattle.explain.proofs.Reached.{Able, able-next}
 use Rattle.explain.proofs.Possible.{In, flag, pick, causeShown, failedBy, idleBy, next-led, next-in}
+use Rattle.explain.proofs.Repeating.{repeat-next, repeat-same}
+use Rattle.explain.proofs.Passing.{scan-run}
 use Rattle.explain.proofs.Exact.{explained-prefix, begin-able, answer-one, told-one, explained-exact}
 use Rattle.explain.proofs.Exact.{unexplained-exact, first-within}
 use Rattle.explain.proofs.Judged.{right-some, right-refused}
@@ -186,6 +190,24 @@ records-shown : (d : Records) (r : Row) → ((s : Controller) → In d s → Abl
     (flag d (idleBy d r idle) ≡ true)
     × (Sends (stepped before cause r) r × (pick (next d r) idle ≡ stepped before cause r .controller))
 records-shown = next-led
+
+-- Rows that repeat the one before. Where something is left behind a row and WTR is not sent, the row once more leaves the
+-- records as they are; WTR once more takes a step of wait, while there is more than one, and nothing else. (`passed d k` is d
+-- with k steps of wait less.)
+row-repeated : (d : Records) (r : Row) → live (next d r) ≡ true → isWait (asked (r .sentK1) .code) ≡ false
+    → next (next d r) r ≡ next d r
+row-repeated = repeat-same
+
+wait-repeated : (d : Records) (r : Row) → live (next d r) ≡ true → 2 ≤ next d r .controller .left
+    → next (next d r) r ≡ passed (next d r) 1
+wait-repeated d r goes left = repeat-next d r goes (λ waits. left)
+
+-- So the scan of a row and, behind it, rows that begin with a run of the same one (`agreeing`, of the crate `repeats`) goes on
+-- behind as many of them as `passes` allows: all of the run or, with WTR, those that the wait lasts for.
+run-passed : (d : Records) (r : Row) (rows : List Row) (i : ℕ) → live (next d r) ≡ true →
+    let few = passes (next d r) (agreeing (r ∷ rows) rows) in
+    scanFrom next live i (next d r) rows ≡ scanFrom next live (i + few) (passed (next d r) few) (drop few rows)
+run-passed = scan-run
 
 -- Both premises hold at the start of a scan, and stay: the scan goes on while it is `live`, and a step from an able record
 -- answers an able one.

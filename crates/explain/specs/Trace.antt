@@ -4,8 +4,8 @@
 use mathlib.Core.Path.{_≡_}
 use mathlib.Core.Bool.{Bool, true, false, not, _&&_, _||_}
 use mathlib.Core.List.{List}
-use Prim.Native.Nat.{ℕ, _≤_}
-use lib.Dec.{eqb}
+use Prim.Native.Nat.{ℕ, _-_, _≤_}
+use lib.Dec.{ltb, eqb}
 use Rattle.basics.specs.Choice.{if_then_else_}
 use Rattle.basics.specs.Settings.{sectionsFit}
 use Rattle.pair.specs.Request.{requests, carries}
@@ -13,7 +13,7 @@ use Rattle.pair.specs.Marks.{channelOf, usable, alarmIn}
 use Rattle.request.specs.Bridge.{bridge}
 use Rattle.request.specs.declared.Request.{Request}
 use Rattle.controller.specs.Settings.{idleK1, idleK2}
-use Rattle.controller.specs.Rules.{asked, rankOfRequest, held, leftAfter, keepsBridge, k2Of}
+use Rattle.controller.specs.Rules.{asked, rankOfRequest, held, isWait, leftAfter, keepsBridge, k2Of}
 use Rattle.controller.specs.Step.{waitOf}
 use Rattle.controller.specs.declared.Controller.{Controller}
 use Rattle.basics.specs.Capture.{Row, rowsOf}
@@ -115,6 +115,30 @@ unfoldable pub next : Records → Row → Records
 next d r =
     let x = asked (r .sentK1) in
     nextWith (commandIn (d .controller) x) (λ k1 local. opens k1 x (r .sentK2) local) d r
+
+-- Rows that repeat the one before leave the records as they are, but that WTR takes a step of wait. With WTR, as many last
+-- longer than the wait of the next step and those behind it.
+abbrev pub outlasts : Request → ℕ → ℕ → Bool
+outlasts last now run = isWait (last .code) && ltb now run
+
+-- of as many, those that may be passed over
+abbrev pub passes : Records → ℕ → ℕ
+passes d run =
+    let s = d .controller in
+    let last = asked (s .sent) in
+    let now = waitOf s last 0 in
+    if outlasts last now run then now else run
+
+-- the records behind as many
+abbrev pub passed : Records → ℕ → Records
+passed d run =
+    let s = d .controller in
+    let left = s .left - run in
+    record {
+      controller = record { n = s .n; mask = s .mask; w = s .w; k1 = s .k1; k2 = s .k2; sent = s .sent; left = left };
+      heard = d .heard;
+      idle = d .idle;
+    }
 
 -- what the scan keeps of a record: the group has 1 to 14 sections, and neither the K1 last sent nor the accepted one has a
 -- channel that no group has

@@ -16,14 +16,15 @@ use pair::mark::second_usable;
 use pair::table::numbers;
 use pair::table::rank_in;
 use pair::table::usable_in;
+use repeats::repeated;
 use request::Request;
 use request::bridge;
-ghost use Prim.Native.Nat.{_≤_, _%_};
+ghost use Prim.Native.Nat.{_≤_, _<_, _%_};
 ghost use Rattle.basics.specs.Capture.{row, most};
 ghost use Rattle.basics.specs.Settings.{sectionsFit};
 ghost use Rattle.explain.specs.Scan.{first};
 ghost use Rattle.controller.specs.Rules.{rankOfRequest, asked};
-ghost use Rattle.explain.specs.Trace.{start, live, secondFits, opensAt, recordAfter, acceptedByte, heardBy, leftOpen, next, Fit, verdictOf, scanned};
+ghost use Rattle.explain.specs.Trace.{start, live, secondFits, opensAt, recordAfter, acceptedByte, heardBy, leftOpen, next, passes, passed, Fit, verdictOf, scanned};
 ghost use Rattle.explain.specs.Verdict.{told};
 ghost use Rattle.pair.specs.Marks.{channelOf};
 ghost use Rattle.pair.specs.Request.{requests};
@@ -161,6 +162,42 @@ fn unexplained_at(step: u16) -> Verdict
     Verdict::Unexplained(step)
 }
 
+// Of as many rows that repeat the last one those that may be passed over: they leave the records as they are, but that WTR takes
+// a step of wait.
+fn passes(d: Records, run: usize) -> u16
+    requires { ⌜ run < 65536 ⌝ }
+    ensures { λ r. ⌜ r ≡ passes d run ⌝ }
+{
+    let s = d.controller;
+    let last = asked(s.sent);
+    let now = wait_of(s, last, 0);
+    if (last.code == WAIT_TO_RESTORE) & ((now as usize) < run) {
+        now
+    } else {
+        run as u16
+    }
+}
+
+fn passed(d: Records, run: u16) -> Records
+    ensures { λ r. ⌜ r ≡ passed d run ⌝ }
+{
+    let s = d.controller;
+    let left = if run < s.left { s.left - run } else { 0 };
+    Records {
+        controller: Controller {
+            n: s.n,
+            mask: s.mask,
+            w: s.w,
+            k1: s.k1,
+            k2: s.k2,
+            sent: s.sent,
+            left,
+        },
+        heard: d.heard,
+        idle: d.idle,
+    }
+}
+
 pub(crate) fn scan(s: Controller, capture: &[u8]) -> Verdict
     requires { ⌜ (length (now capture) % 4 ≡ 0) × (length (now capture) ≤ most) × Fit (start s) ⌝ }
     ensures { λ r. ⌜ told r ≡ scanned s (now (capture .entry)) ⌝ }
@@ -171,7 +208,6 @@ pub(crate) fn scan(s: Controller, capture: &[u8]) -> Verdict
         heard: true,
         idle: false,
     };
-    let mut step: u16 = 0;
     let mut at: usize = 0;
     while at < capture.len() {
         possible = next(
@@ -183,10 +219,15 @@ pub(crate) fn scan(s: Controller, capture: &[u8]) -> Verdict
             capture[at + 3],
         );
         if !live(possible) {
-            return unexplained_at(step);
+            return unexplained_at((at / 4) as u16);
         }
-        step += 1;
         at += 4;
+        let run = repeated(capture, at);
+        if 0 < run {
+            let few = passes(possible, run);
+            possible = passed(possible, few);
+            at += 4 * (few as usize);
+        }
     }
-    Verdict::Explained(step)
+    Verdict::Explained((at / 4) as u16)
 }

@@ -43,7 +43,7 @@ row-here bytes at room =
     ∙ ap (λ (l : List ℕ). getD bytes (at + 3) 0 ∷ l) (ap (λ (i : ℕ). drop i bytes) four)))))
 
 -- behind as many steps stand the rows of the bytes behind them
-rows-behind : (step : ℕ) (bytes : List ℕ) → drop step (rowsOf bytes) ≡ rowsOf (drop (4 * step) bytes)
+pub rows-behind : (step : ℕ) (bytes : List ℕ) → drop step (rowsOf bytes) ≡ rowsOf (drop (4 * step) bytes)
 rows-behind zero bytes = refl
 rows-behind (suc step) bytes =
     let four : suc (suc (suc (suc (4 * step)))) ≡ 4 * suc step = omega arith in
