@@ -1,10 +1,10 @@
 -- A run of rows that repeat the one before is passed over at once.
 use mathlib.Core.Path.{_≡_, refl, sym, ap, subst, _∙_}
-use mathlib.Core.Bool.{Bool, true, false, _&&_, and-eq-true-iff, false≢true}
+use mathlib.Core.Bool.{Bool, true, false, _&&_, false≢true}
 use mathlib.Core.List.{List, [], _∷_}
 use Prim.Native.Nat.{ℕ, zero, suc, _+_, _-_, _≤_}
 use native.Mathlib.Omega.{arith}
-use lib.Dec.{ltb, eqb}
+use lib.Dec.{ltb}
 use lib.ListN.{drop}
 use borrow.Author.Tests.{eqb-true, ltb-true, ltb-false}
 use Rattle.basics.specs.Capture.{Row}
@@ -15,7 +15,7 @@ use Rattle.controller.specs.Step.{waitOf}
 use Rattle.repeats.specs.Repeats.{sameRow, agreeing}
 use Rattle.repeats.proofs.Agreed.{same-is}
 use Rattle.explain.specs.Scan.{scanFrom}
-use Rattle.explain.specs.Trace.{live, next, outlasts, passes, passed}
+use Rattle.explain.specs.Trace.{live, next, takesWait, passes, withLeft, passed}
 use Rattle.explain.specs.declared.Records.{Records}
 use Rattle.explain.proofs.Repeating.{repeat-next}
 
@@ -54,28 +54,16 @@ behind-next r e behind lasts =
 
 passed-twice : (e : Records) (j k : ℕ) → passed (passed e j) k ≡ passed e (j + k)
 passed-twice e j k =
-    let s = e .controller in
-    let less : s .left - j - k ≡ s .left - (j + k) = omega arith in
-    λ i.
-    record {
-      controller = record { n = s .n; mask = s .mask; w = s .w; k1 = s .k1; k2 = s .k2; sent = s .sent; left = less i };
-      heard = e .heard;
-      idle = e .idle;
-    }
+    let left = e .controller .left in
+    let less : left - j - k ≡ left - (j + k) = omega arith in
+    ap (withLeft e) less
 
 pub scan-past : (k : ℕ) (rows : List Row) (r : Row) (e : Records) (i : ℕ) → Behind r e → k ≤ agreeing (r ∷ rows) rows → Lasts e k
     → scanFrom next live i e rows ≡ scanFrom next live (i + k) (passed e k) (drop k rows)
 scan-past zero rows r e i behind few lasts =
-    let s = e .controller in
     let here : i ≡ i + 0 = omega arith in
-    let left : s .left ≡ s .left - 0 = omega arith in
-    λ j.
-    scanFrom next live (here j)
-    (record {
-      controller = record { n = s .n; mask = s .mask; w = s .w; k1 = s .k1; k2 = s .k2; sent = s .sent; left = left j };
-      heard = e .heard;
-      idle = e .idle;
-    }) rows
+    let left : e .controller .left ≡ e .controller .left - 0 = omega arith in
+    λ j. scanFrom next live (here j) (withLeft e (left j)) rows
 scan-past (suc k) [] r e i behind few lasts = absurd (omega arith)
 scan-past (suc k) (q ∷ rows) r e i behind few lasts =
     go (sameRow r q) refl (λ j m. scan-past k rows q m j)
@@ -118,21 +106,21 @@ module _ (e : Records) (run : ℕ) where
   now = waitOf (e .controller) (asked (e .controller .sent)) 0
 
   pub passes-most : passes e run ≤ run
-  passes-most = least (waits e) now run .0
+  passes-most = least (takesWait (asked (e .controller .sent))) now run .0
 
   pub passes-last : Lasts e (passes e run)
   passes-last wait =
       let code = eqb-true (asked (e .controller .sent) .code) 0b0110 wait in
       let is : now ≡ e .controller .left - 1 = rw code refl in
-      subst (λ (k : ℕ). passes e run ≤ k) is (least (waits e) now run .1 wait)
+      subst (λ (k : ℕ). passes e run ≤ k) is (least (takesWait (asked (e .controller .sent))) now run .1 wait)
 
 -- the test that the function makes
 pub passes-by : (e : Records) (run : ℕ) {last : Request} {now : ℕ} → last ≡ asked (e .controller .sent)
-    → now ≡ waitOf (e .controller) last 0 → (t : Bool) → outlasts last now run ≡ t → (if t then now else run) ≡ passes e run
+    → now ≡ waitOf (e .controller) last 0 → (t : Bool) → takesWait last && ltb now run ≡ t → (if t then now else run) ≡ passes e run
 passes-by e run {last} {now} is waiting t test =
     let behind : now ≡ waitOf (e .controller) (asked (e .controller .sent)) 0 =
     waiting ∙ ap (λ (y : Request). waitOf (e .controller) y 0) is in
-    (λ i. if sym test i then now else run) ∙ (λ i. if outlasts (is i) (behind i) run then behind i else run)
+    (λ i. if sym test i then now else run) ∙ (λ i. if takesWait (is i) && ltb (behind i) run then behind i else run)
 
 pub scan-run : (d : Records) (r : Row) (rows : List Row) (i : ℕ) → live (next d r) ≡ true →
     let few = passes (next d r) (agreeing (r ∷ rows) rows) in

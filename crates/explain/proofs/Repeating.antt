@@ -17,7 +17,7 @@ use Rattle.controller.specs.Settings.{idleK1}
 use Rattle.controller.specs.Step.{waitOf}
 use Rattle.controller.specs.declared.Controller.{Controller}
 use Rattle.explain.specs.Cause.{commanded, follows, conditioned, waited, arises, unseen, isLocal, mayHide}
-use Rattle.explain.specs.Trace.{live, secondFits, opens, commandIn, localIn, hiddenIn, recordAfter, acceptedByte, leftOpen, next, passed}
+use Rattle.explain.specs.Trace.{live, secondFits, opens, commandIn, localIn, hiddenIn, recordAfter, acceptedByte, leftOpen, next, withLeft, passed}
 use Rattle.explain.specs.declared.Records.{Records}
 use Rattle.explain.proofs.Followed.{reverse-plain, protection-plain, sent-local, local-live, hidden-live}
 use Rattle.explain.proofs.Source.{one-part}
@@ -173,12 +173,5 @@ pub repeat-same : (d : Records) (r : Row) → live (next d r) ≡ true → isWai
     → next (next d r) r ≡ next d r
 unfolding next
 repeat-same d r goes none =
-    let s = next d r .controller in
-    let left : s .left - 1 ≡ s .left = rw none refl in
-    repeat-next d r goes (λ waits. absurd (false≢true (sym none ∙ waits)))
-    ∙ (λ i.
-    record {
-      controller = record { n = s .n; mask = s .mask; w = s .w; k1 = s .k1; k2 = s .k2; sent = s .sent; left = left i };
-      heard = next d r .heard;
-      idle = next d r .idle;
-    })
+    let left : next d r .controller .left - 1 ≡ next d r .controller .left = rw none refl in
+    repeat-next d r goes (λ waits. absurd (false≢true (sym none ∙ waits))) ∙ ap (withLeft (next d r)) left

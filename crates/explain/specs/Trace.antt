@@ -116,29 +116,30 @@ next d r =
     let x = asked (r .sentK1) in
     nextWith (commandIn (d .controller) x) (λ k1 local. opens k1 x (r .sentK2) local) d r
 
--- Rows that repeat the one before leave the records as they are, but that WTR takes a step of wait. With WTR, as many last
--- longer than the wait of the next step and those behind it.
-abbrev pub outlasts : Request → ℕ → ℕ → Bool
-outlasts last now run = isWait (last .code) && ltb now run
+-- Rows that repeat the one before leave the records as they are, but that WTR takes a step of wait.
+abbrev pub takesWait : Request → Bool
+takesWait last = isWait (last .code)
 
--- of as many, those that may be passed over
+-- of as many such rows those that may be passed over: with WTR not more than the wait of the next step is
 abbrev pub passes : Records → ℕ → ℕ
 passes d run =
     let s = d .controller in
     let last = asked (s .sent) in
     let now = waitOf s last 0 in
-    if outlasts last now run then now else run
+    if takesWait last && ltb now run then now else run
 
--- the records behind as many
-abbrev pub passed : Records → ℕ → Records
-passed d run =
+-- the records with so much wait left; and those behind as many
+abbrev pub withLeft : Records → ℕ → Records
+withLeft d left =
     let s = d .controller in
-    let left = s .left - run in
     record {
       controller = record { n = s .n; mask = s .mask; w = s .w; k1 = s .k1; k2 = s .k2; sent = s .sent; left = left };
       heard = d .heard;
       idle = d .idle;
     }
+
+abbrev pub passed : Records → ℕ → Records
+passed d run = withLeft d (d .controller .left - run)
 
 -- what the scan keeps of a record: the group has 1 to 14 sections, and neither the K1 last sent nor the accepted one has a
 -- channel that no group has

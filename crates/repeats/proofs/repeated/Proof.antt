@@ -1,7 +1,6 @@
 -- `repeated` meets its contract: the first row that is not there, or differs, ends the run.
 use mathlib.Core.Path.{sym, _∙_, refl}
 use mathlib.Core.Logic.{inl, inr}
-use Prim.Native.Nat.{zero-le}
 use native.Mathlib.Omega.{arith}
 use borrow.Author.Tests.{lt-ltb, not-true}
 use Rattle.repeats.proofs.Alikes.{gone-on}

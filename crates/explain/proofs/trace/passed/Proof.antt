@@ -1,8 +1,9 @@
 -- `passed` meets its contract: behind the last step of wait none is left.
-use mathlib.Core.Path.{_≡_, refl}
-use Prim.Native.Nat.{ℕ, _-_}
+use mathlib.Core.Path.{_≡_, ap}
+use Prim.Native.Nat.{_-_}
 use native.Mathlib.Omega.{arith}
 use borrow.Author.Needs.{needs}
+use Rattle.explain.specs.Trace.{withLeft}
 use Rattle.explain.proofs.trace.passed.Statement.{statement}
 use Rattle.explain.proofs.trace.passed.Tie as tie
 
@@ -17,7 +18,7 @@ returns-2 c =
     let start = c .before .before .before in
     let more = c .if1 .left in
     let none : 0 ≡ start .args .d .controller .left - start .args .run = omega arith in
-    rw (← none) refl
+    ap (withLeft (start .args .d)) none
 
 pub passed-spec : {M : Type 1} → statement M
 passed-spec = tie.close (tie.spec sub-left returns returns-2)
