@@ -6,7 +6,7 @@ use native.Mathlib.Nat.{add-zero}
 use native.Mathlib.Omega.{arith}
 use lib.ListN.{length, getD, drop}
 use lib.Seq.{drop-cons, getD-drop}
-use Rattle.basics.specs.Capture.{Row, row, rowsOf}
+use Rattle.basics.specs.Capture.{Row, rowsOf, rowAt}
 
 pub rows-long : (bytes : List ℕ) → length (rowsOf bytes) ≡ length bytes / 4
 rows-long (a ∷ b ∷ c ∷ d ∷ rest) = let e = rows-long rest in omega arith
@@ -14,9 +14,6 @@ rows-long (a ∷ b ∷ c ∷ []) = omega arith
 rows-long (a ∷ b ∷ []) = omega arith
 rows-long (a ∷ []) = omega arith
 rows-long [] = omega arith
-
-abbrev pub rowAt : List ℕ → ℕ → Row
-rowAt bytes at = row (getD bytes at 0) (getD bytes (at + 1) 0) (getD bytes (at + 2) 0) (getD bytes (at + 3) 0)
 
 pub row-here : (bytes : List ℕ) (at : ℕ) → at + 4 ≤ length bytes
     → rowsOf (drop at bytes) ≡ rowAt bytes at ∷ rowsOf (drop (at + 4) bytes)

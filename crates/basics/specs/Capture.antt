@@ -1,8 +1,9 @@
 -- A capture (01, 'The judge'): a row of steps, four bytes each; and refusals 8 and 9, for every entry that takes one.
 use mathlib.Core.Bool.{not}
 use mathlib.Core.List.{List, [], _∷_}
-use Prim.Native.Nat.{ℕ, _%_}
+use Prim.Native.Nat.{ℕ, _+_, _%_}
 use lib.Dec.{ltb, eqb}
+use lib.ListN.{getD}
 use Rattle.basics.specs.First.{Check, _when_}
 
 -- received K1, K2, sent K1, K2
@@ -22,6 +23,10 @@ rowsOf (k1 ∷ k2 ∷ sentK1 ∷ []) = []
 rowsOf (k1 ∷ k2 ∷ []) = []
 rowsOf (k1 ∷ []) = []
 rowsOf [] = []
+
+-- the row of the four bytes from a place on
+abbrev pub rowAt : List ℕ → ℕ → Row
+rowAt bytes at = row (getD bytes at 0) (getD bytes (at + 1) 0) (getD bytes (at + 2) 0) (getD bytes (at + 3) 0)
 
 -- bytes of a capture
 abbrev pub most : ℕ

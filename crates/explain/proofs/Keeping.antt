@@ -7,7 +7,7 @@ use native.Mathlib.Numerals.{add-one}
 use native.Mathlib.Omega.{arith}
 use lib.ListN.{length, take, drop, set, length-set, drop-of-length-le}
 use lib.Seq.{length-take-le, drop-cons, append-snoc, getD-take, take-suc-set, drop-set-lt, drop-drop}
-use Rattle.basics.specs.Capture.{Row, rowsOf}
+use Rattle.basics.specs.Capture.{Row, rowsOf, rowAt}
 use Rattle.pair.specs.Marks.{channelOf}
 use Rattle.explain.specs.Filling.{conditionsKept, commandKept, followed, along, ended, Stored, Keeps}
 use Rattle.explain.specs.Scan.{all, first, scanFrom}
@@ -15,7 +15,7 @@ use Rattle.explain.specs.Trace.{live, next, Fit}
 use Rattle.explain.specs.declared.Records.{Records}
 use Rattle.explain.proofs.Followed.{followed-live}
 use Rattle.explain.proofs.Ranked.{next-fit}
-use Rattle.basics.proofs.Rows.{rows-long, rowAt, row-at}
+use Rattle.basics.proofs.Rows.{rows-long, row-at}
 
 -- a scan that takes in all rows leaves something open behind the first
 pub first-open : (i k : ℕ) (d : Records) (r : Row) (rows : List Row) → scanFrom next live i d (r ∷ rows) ≡ all k

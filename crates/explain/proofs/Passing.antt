@@ -12,8 +12,8 @@ use Rattle.basics.specs.Choice.{if_then_else_}
 use Rattle.request.specs.declared.Request.{Request}
 use Rattle.controller.specs.Rules.{asked, isWait}
 use Rattle.controller.specs.Step.{waitOf}
-use Rattle.repeats.specs.Repeats.{sameRow, agreeing}
-use Rattle.repeats.proofs.Agreed.{same-is}
+use Rattle.repeats.specs.Repeats.{sameRow, runOf}
+use Rattle.repeats.proofs.Runs.{same-is}
 use Rattle.explain.specs.Scan.{scanFrom}
 use Rattle.explain.specs.Trace.{live, next, takesWait, passes, withLeft, passed}
 use Rattle.explain.specs.declared.Records.{Records}
@@ -58,32 +58,31 @@ passed-twice e j k =
     let less : left - j - k ≡ left - (j + k) = omega arith in
     ap (withLeft e) less
 
-pub scan-past : (k : ℕ) (rows : List Row) (r : Row) (e : Records) (i : ℕ) → Behind r e → k ≤ agreeing (r ∷ rows) rows → Lasts e k
+pub scan-past : (k : ℕ) (rows : List Row) (r : Row) (e : Records) (i : ℕ) → Behind r e → k ≤ runOf r rows → Lasts e k
     → scanFrom next live i e rows ≡ scanFrom next live (i + k) (passed e k) (drop k rows)
 scan-past zero rows r e i behind few lasts =
     let here : i ≡ i + 0 = omega arith in
     let left : e .controller .left ≡ e .controller .left - 0 = omega arith in
     λ j. scanFrom next live (here j) (withLeft e (left j)) rows
 scan-past (suc k) [] r e i behind few lasts = absurd (omega arith)
-scan-past (suc k) (q ∷ rows) r e i behind few lasts =
-    go (sameRow r q) refl (λ j m. scan-past k rows q m j)
+scan-past (suc k) (q ∷ rows) r e i behind few lasts = go (sameRow r q) refl (λ j m. scan-past k rows r m j)
   where
     go : (t : Bool) → sameRow r q ≡ t
-        → ((j : ℕ) (m : Records) → Behind q m → k ≤ agreeing (q ∷ rows) rows → Lasts m k
+        → ((j : ℕ) (m : Records) → Behind r m → k ≤ runOf r rows → Lasts m k
         → scanFrom next live j m rows ≡ scanFrom next live (j + k) (passed m k) (drop k rows))
         → scanFrom next live i e (q ∷ rows) ≡ scanFrom next live (i + suc k) (passed e (suc k)) (drop (suc k) (q ∷ rows))
     go true same later =
-        let few2 : suc k ≤ suc (agreeing (q ∷ rows) rows) = rw same at few in
-        let is = same-is r q same in
-        let one = subst (λ (p : Row). next e p ≡ passed e 1) is (behind-next r e behind (λ wait. let so = lasts wait in omega arith)) in
-        let alive : live (next e q) ≡ true = ap live one ∙ behind .alive in
+        let few2 : suc k ≤ suc (runOf r rows) = rw same at few in
+        let one = behind-next r e behind (λ wait. let so = lasts wait in omega arith) in
+        let two = ap (next e) (sym (same-is r q same)) ∙ one in
+        let alive : live (next e q) ≡ true = ap live two ∙ behind .alive in
         let here : suc i + k ≡ i + suc k = omega arith in
         let on : 1 + k ≡ suc k = omega arith in
         let rest =
-        later (suc i) (next e q) (record { before = e; by = refl; alive = alive }) (omega arith)
-        (subst (λ (m : Records). Lasts m k) (sym one) (λ wait. let so = lasts wait in omega arith)) in
-        (rw alive rest)
-        ∙ ap (λ (m : Records). scanFrom next live (suc i + k) (passed m k) (drop k rows)) one
+        later (suc i) (passed e 1) (record { before = e; by = sym one; alive = behind .alive }) (omega arith)
+        (λ wait. let so = lasts wait in omega arith) in
+        (rw alive (ap (λ (m : Records). scanFrom next live (suc i) m rows) two))
+        ∙ rest
         ∙ ap (λ (m : Records). scanFrom next live (suc i + k) m (drop k rows)) (passed-twice e 1 k)
         ∙ (λ j. scanFrom next live (here j) (passed e (on j)) (drop k rows))
     go false differs later = let none : suc k ≤ 0 = rw differs at few in absurd (omega arith)
@@ -123,9 +122,9 @@ passes-by e run {last} {now} is waiting t test =
     (λ i. if sym test i then now else run) ∙ (λ i. if takesWait (is i) && ltb (behind i) run then behind i else run)
 
 pub scan-run : (d : Records) (r : Row) (rows : List Row) (i : ℕ) → live (next d r) ≡ true →
-    let few = passes (next d r) (agreeing (r ∷ rows) rows) in
+    let few = passes (next d r) (runOf r rows) in
     scanFrom next live i (next d r) rows ≡ scanFrom next live (i + few) (passed (next d r) few) (drop few rows)
 scan-run d r rows i goes =
     let e = next d r in
-    let run = agreeing (r ∷ rows) rows in
+    let run = runOf r rows in
     scan-past (passes e run) rows r e i (record { before = d; by = refl; alive = goes }) (passes-most e run) (passes-last e run)

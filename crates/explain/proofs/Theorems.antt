@@ -1,7 +1,7 @@
 -- The front door: what is proved of the judge, each theorem in full with the line that cites its proof.
 use mathlib.Core.Path.{_≡_, refl}
 use mathlib.Core.Bool.{Bool, true, false}
-use mathlib.Core.List.{List, _∷_}
+use mathlib.Core.List.{List}
 use mathlib.Core.Logic.{_↔_, _⊎_, inl}
 use Prim.Native.Nat.{ℕ, _+_, _≤_, _<_}
 use lib.Dec.{eqb}
@@ -24,7 +24,7 @@ use Rattle.explain.specs.Explained.{Cause, stepped, Sends, Explains, Exp
 use Rattle.explain.specs.Causes.{noOtherBit, causesIn, Causes, fixedIn}
 use Rattle.explain.specs.Verdict.{Judging, explainedAt, unexplainedAt, refusedBy, told, judgeFaults, Right}
 use Rattle.explain.specs.Lines.{lines, AllRight}
-use Rattle.repeats.specs.Repeats.{agreeing}
+use Rattle.repeats.specs.Repeats.{runOf}
 use Rattle.explain.specs.Scan.{scanFrom}
 use Rattle.explain.specs.Trace.{idled, start, live, next, passes, passed}
 use Rattle.explain.specs.declared.Records.{Records}
@@ -202,10 +202,10 @@ wait-repeated : (d : Records) (r : Row) → live (next d r) ≡ true → 2 ≤ n
     → next (next d r) r ≡ passed (next d r) 1
 wait-repeated d r goes left = repeat-next d r goes (λ waits. left)
 
--- So the scan of a row and, behind it, rows that begin with a run of the same one (`agreeing`, of the crate `repeats`) goes on
+-- So the scan of a row and, behind it, rows that begin with a run of the same one (`runOf`, of the crate `repeats`) goes on
 -- behind as many of them as `passes` allows: all of the run or, with WTR, those that the wait lasts for.
 run-passed : (d : Records) (r : Row) (rows : List Row) (i : ℕ) → live (next d r) ≡ true →
-    let few = passes (next d r) (agreeing (r ∷ rows) rows) in
+    let few = passes (next d r) (runOf r rows) in
     scanFrom next live i (next d r) rows ≡ scanFrom next live (i + few) (passed (next d r) few) (drop few rows)
 run-passed = scan-run
 

@@ -6,13 +6,13 @@ use Prim.Native.Nat.{ℕ, suc, _+_, _-_, _*_, _/_, _%_, _≤_, _<_, zero-le}
 use native.Mathlib.Omega.{arith}
 use lib.ListN.{length, drop, drop-of-length-le}
 use lib.Seq.{drop-drop}
-use Rattle.basics.specs.Capture.{Row, rowsOf, most}
+use Rattle.basics.specs.Capture.{Row, rowsOf, rowAt, most}
 use Rattle.explain.specs.Scan.{all, first, scanFrom}
 use Rattle.explain.specs.Trace.{live, next, passes, passed, Fit, verdictOf}
 use Rattle.explain.specs.declared.Records.{Records}
-use Rattle.basics.proofs.Rows.{rowAt, row-here, rows-behind}
-use Rattle.repeats.specs.Repeats.{agreeing, repeated}
-use Rattle.repeats.proofs.Agreed.{repeated-few, repeated-is}
+use Rattle.basics.proofs.Rows.{row-here, rows-behind}
+use Rattle.repeats.specs.Repeats.{runOf, repeated}
+use Rattle.repeats.proofs.Runs.{repeated-few, repeated-is}
 use Rattle.explain.proofs.Ranked.{next-fit}
 use Rattle.explain.proofs.Passing.{Behind, Lasts, scan-past, passes-most, passes-last}
 
@@ -94,8 +94,8 @@ module _ {bytes : List ℕ} {begin possible : Records} {at : ℕ} (w : Walk byte
       let i = w .within in
       let rows = rowsOf (drop at bytes) in
       let row : at - 4 ≡ before = omega arith in
-      let agrees : run ≡ agreeing (rowAt bytes before ∷ rows) rows =
-      repeats ∙ repeated-is bytes at (omega arith) i ∙ ap (λ (k : ℕ). agreeing (rowAt bytes k ∷ rows) rows) row in
+      let runs : run ≡ runOf (rowAt bytes before) rows =
+      repeats ∙ repeated-is bytes at (omega arith) ∙ ap (λ (k : ℕ). runOf (rowAt bytes k) rows) row in
       let most = passes-most possible run in
       let there = repeated-few bytes at in
       let on : (at + 4 * few) / 4 ≡ at / 4 + few = omega arith in

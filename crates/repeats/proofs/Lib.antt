@@ -1,4 +1,4 @@
 -- Laws for the crates above; Theorems is the front door.
-mod Alikes
-pub mod Agreed
+mod Pieces
+pub mod Runs
 mod Theorems

@@ -4,11 +4,10 @@ use mathlib.Core.List.{List}
 use Prim.Native.Nat.{ℕ, _-_, _*_, _≤_, _<_}
 use lib.ListN.{length, getD, drop}
 use borrow.Author.Tests.{lt-ltb}
-use Rattle.basics.specs.Capture.{Row, rowsOf}
+use Rattle.basics.specs.Capture.{Row, rowsOf, rowAt}
 use Rattle.basics.proofs.One.{OneAnswer, one-value}
-use Rattle.basics.proofs.Rows.{rowAt}
 use Rattle.repeats.specs.Repeats.{back, repeated}
-use Rattle.repeats.proofs.Agreed.{repeated-few, repeated-same, repeated-stops}
+use Rattle.repeats.proofs.Runs.{repeated-few, repeated-same, repeated-stops}
 use Rattle.repeats.proofs.repeated.Kinds as repeated-kinds
 use Rattle.repeats.proofs.repeated.Reads as repeated-fn
 use Rattle.repeats.proofs.repeated.Statement as repeated-statement
@@ -23,16 +22,16 @@ repeated-right = repeated-met.met
 repeated-unique : OneAnswer 1 repeated-kinds.ps repeated-kinds.r repeated-fn.Post
 repeated-unique κs args x y s t p q = one-value p q
 
--- What the definition means. As many rows from a place on, one after the other, equal the row that stands before the place
--- (`rowAt bytes i` is the row of the four bytes from i on); they are all there; and the next one, if there is one, does not.
-rows-right : (bytes : List ℕ) (at : ℕ) → 4 ≤ at → at ≤ length bytes → (j : ℕ) (other : Row) → j < repeated bytes at
+-- What the definition means. As many rows from a place on, one after the other, equal the row that stands before the place; they
+-- are all there; and the next one, if there is one, does not.
+rows-right : (bytes : List ℕ) (at : ℕ) → 4 ≤ at → (j : ℕ) (other : Row) → j < repeated bytes at
     → getD (rowsOf (drop at bytes)) j other ≡ rowAt bytes (at - 4)
 rows-right = repeated-same
 
 rows-there : (bytes : List ℕ) (at : ℕ) → 4 * repeated bytes at ≤ length bytes - at
 rows-there = repeated-few
 
-rows-complete : (bytes : List ℕ) (at : ℕ) → 4 ≤ at → at ≤ length bytes → (other : Row)
+rows-complete : (bytes : List ℕ) (at : ℕ) → 4 ≤ at → (other : Row)
     → repeated bytes at < length (rowsOf (drop at bytes))
     → getD (rowsOf (drop at bytes)) (repeated bytes at) other ≡ rowAt bytes (at - 4) → ⊥
 rows-complete = repeated-stops

@@ -1,10 +1,9 @@
 -- `repeated` meets its contract: the first row that is not there, or differs, ends the run.
-use mathlib.Core.Path.{sym, _∙_, refl}
+use mathlib.Core.Path.{sym, ap, _∙_, refl}
 use mathlib.Core.Logic.{inl, inr}
 use native.Mathlib.Omega.{arith}
 use borrow.Author.Tests.{lt-ltb, not-true}
-use Rattle.repeats.proofs.Alikes.{gone-on}
-use Rattle.repeats.proofs.Agreed.{repeated-none, repeated-run}
+use Rattle.repeats.proofs.Runs.{repeated-none, repeated-run}
 use Rattle.repeats.proofs.repeated.Statement.{statement}
 use Rattle.repeats.proofs.repeated.Tie as tie
 
@@ -31,7 +30,8 @@ alike-requires : tie.Need-alike-requires
 alike-requires c κs =
     let room = c .if3 .left in
     let within = c .before .if2 .left in
-    (c .before .before .if1 .left, omega arith)
+    let first = c .before .before .if1 .left in
+    (omega arith, omega arith)
 
 returns-4 : tie.Need-returns-4
 returns-4 c =
@@ -39,29 +39,21 @@ returns-4 c =
     repeated-none (start .args .capture .now) (start .args .at) (c .before .before .before .before .if1 .left)
     (inr (sym (c .before .alike .ensures) ∙ not-true (c .before .alike .result) (c .if4 .taken)))
 
-past-requires : tie.Need-past-requires
-past-requires c κs =
-    let seen = c .before .before .before in
-    (seen .before .if1 .left, seen .if2 .left, omega arith, refl)
-
-past-requires-2 : tie.Need-past-requires-2
-past-requires-2 c κs =
-    let gone = c .past .ensures .gone in
-    let later = gone .later in
-    let first = c .before .before .before .before .before .if1 .left in
-    (omega arith, gone .within, omega arith, refl)
+run-end-requires : tie.Need-run-end-requires
+run-end-requires c κs =
+    let room = c .before .before .if3 .left in
+    let within = c .before .before .before .if2 .left in
+    let first = c .before .before .before .before .if1 .left in
+    (omega arith, within)
 
 sub-result : tie.Need-sub-result
-sub-result c =
-    let later = c .before .past .ensures .gone .later in
-    let later2 = c .past2 .ensures .gone .later in
-    omega arith
+sub-result c = c .run-end .ensures .gone .later
 
 returns-5 : tie.Need-returns-5
 returns-5 c =
-    let start = c .before .before .before .before .before .before .before .before in
-    repeated-run (start .args .capture .now) (start .args .at) _ (c .before .before .before .before .before .before .if1 .left)
-    (gone-on (c .before .past .ensures .gone) (c .past2 .ensures .gone)) (c .past2 .ensures .ended)
+    let start = c .before .before .before .before .before .before .before in
+    repeated-run (start .args .capture .now) (start .args .at) _ (c .before .before .before .before .before .if1 .left)
+    (c .run-end .ensures)
 
 pub repeated-spec : {M : Type 1} → statement M
 repeated-spec =
@@ -73,7 +65,6 @@ repeated-spec =
     returns-3
     alike-requires
     returns-4
-    past-requires
-    past-requires-2
+    run-end-requires
     sub-result
     returns-5)
