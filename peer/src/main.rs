@@ -23,11 +23,12 @@
 //! no evidence.
 //!
 //! Nor was the closed form of `judge::scan`, which requests can be sent in a step,
-//! with an alarm or without: it was handed over. What speaks for it is that it
-//! agrees with the judge by brute force, which was written from the papers alone. And
-//! so was the way of `causes::fill`, to keep what a step leaves open in the tables and
-//! to settle it from the last step back. What speaks for that is the controller, which
-//! sends the captures under the causes that are found.
+//! with an alarm or without: it was handed over. So was the equation by which that scan
+//! passes over rows: one that equals the row before, and does not send WTR, leaves it as
+//! it was. What speaks for both is that it agrees with the judge by brute force, which
+//! was written from the papers alone. And so was the way of `causes::fill`, to keep what
+//! a step leaves open in the tables and to settle it from the last step back. What speaks
+//! for that is the controller, which sends the captures under the causes that are found.
 //!
 //! The programs are compared by what they print: `sequences` for the byte pair and
 //! the controller, `trials` for the capture book, `k1` for what is said of each K1

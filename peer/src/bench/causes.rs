@@ -1,16 +1,17 @@
 //! The causes, over captures that the judge is timed on: as long as can be, and a quarter
-//! of that, since a step is to take the same time in both. Beside those of the library
-//! stands its own judge, of whose time they are to take three times at most.
+//! of that, since a step is to take the same time in both; and a line of few events. Beside
+//! those of the library stands its own judge, of whose time they are to take three times at
+//! most.
 
-use super::captures::{judge, works, EXPLAINED};
-use super::{Row, Unit, Work};
+use super::captures::{self, judge, EXPLAINED};
+use super::{lines, Row, Unit, Work, SETTINGS};
 use crate::books::capture::{Capture, Settings};
 use crate::causes::replay;
 use crate::door::{Door, Peer, Tables, VERDICT};
 use std::hint::black_box;
 use std::io;
 
-const LONGEST: usize = 16_384;
+const LONGEST: usize = lines::STEPS;
 const SHORTEST: usize = LONGEST / 4;
 
 /// Tables with room for the longest capture.
@@ -32,8 +33,8 @@ impl Lent {
 pub fn rows(library: &impl Door) -> io::Result<Vec<Row>> {
     let mut rows = Vec::new();
     let [mut first, mut second] = [(); 2].map(|()| Lent::new());
-    for (n, captures, steps) in long_works() {
-        let name = format!("causes, n = {n}, {steps} steps");
+    for (name, captures) in works() {
+        let steps = captures[0].rows.len();
         if !all_replayed(library, &captures) {
             let told = format!("{name}: not what was captured, see `peer compare`");
             return Err(io::Error::other(told));
@@ -53,9 +54,17 @@ pub fn rows(library: &impl Door) -> io::Result<Vec<Row>> {
     Ok(rows)
 }
 
-fn long_works() -> impl Iterator<Item = (u8, Vec<Capture>, usize)> {
-    let works = works().into_iter();
-    works.filter(|&(.., steps)| steps >= SHORTEST)
+/// The names of the rows and the captures of each.
+fn works() -> Vec<(String, Vec<Capture>)> {
+    let name = |n, steps| format!("causes, n = {n}, {steps} steps");
+    let drawn = captures::works().into_iter();
+    let drawn = drawn.filter(|&(.., steps)| steps >= SHORTEST);
+    let drawn = drawn.map(|(n, captures, steps)| (name(n, steps), captures));
+    let lines = SETTINGS.into_iter().map(|settings| {
+        let name = name(settings.n, LONGEST) + ", a line";
+        (name, vec![lines::line(settings)])
+    });
+    drawn.chain(lines).collect()
 }
 
 /// How many are explained.
@@ -89,13 +98,20 @@ fn all_replayed(door: &impl Door, captures: &[Capture]) -> bool {
 
 #[cfg(test)]
 pub fn check(door: &impl Door) {
-    let works: Vec<_> = long_works().collect();
-    let lengths: Vec<(u8, usize)> = works.iter().map(|&(n, _, steps)| (n, steps)).collect();
+    let works = works();
+    let names: Vec<&str> = works.iter().map(|(name, _)| &name[..]).collect();
     assert_eq!(
-        lengths,
-        [(2, 16_384), (2, 4_096), (14, 16_384), (14, 4_096)]
+        names,
+        [
+            "causes, n = 2, 16384 steps",
+            "causes, n = 2, 4096 steps",
+            "causes, n = 14, 16384 steps",
+            "causes, n = 14, 4096 steps",
+            "causes, n = 2, 16384 steps, a line",
+            "causes, n = 14, 16384 steps, a line",
+        ]
     );
-    for (_, captures, _) in works {
+    for (_, captures) in works {
         assert!(all_replayed(door, &captures));
         let found = find_all(door, &captures, &mut Lent::new());
         assert_eq!(found, judge(door, &captures));

@@ -5,6 +5,7 @@ mod books;
 mod captures;
 mod causes;
 mod clock;
+mod lines;
 mod steps;
 mod switches;
 
@@ -71,14 +72,15 @@ impl Work {
     }
 }
 
-/// The longest name has 53 characters.
-const NAME_WIDTH: usize = 54;
+/// The longest name has 62 characters.
+const NAME_WIDTH: usize = 63;
 
-const PREFACE: [&str; 4] = [
+const PREFACE: [&str; 5] = [
     "Rattle is the proved library, Rust this package, both called through the functions of chainplater.h.",
     "Outputs are not cleared between calls. A MB is 1,000,000 bytes of the book; the reader looks at its",
     "contents alone. The ratio is the time of Rattle by that of Rust. In brackets: the lower and the upper",
-    "quarter of the runs. In the rows beside Rattle's judge its figures stand in the place of Rust's.",
+    "quarter of the runs. In the rows beside Rattle's judge its figures stand in the place of Rust's, and in",
+    "those beside a sum those of adding up the bytes of the capture: what has to read them takes that long.",
 ];
 
 pub fn write(library: &impl Door, out: &mut impl Write) -> io::Result<()> {
@@ -95,6 +97,7 @@ pub fn write(library: &impl Door, out: &mut impl Write) -> io::Result<()> {
     out.flush()?;
     write_rows(out, steps::rows(library)?)?;
     write_rows(out, captures::rows(library)?)?;
+    write_rows(out, lines::rows(library)?)?;
     write_rows(out, causes::rows(library)?)?;
     write_rows(out, switches::rows(library)?)?;
     write_rows(out, books::rows(library)?)
@@ -140,10 +143,13 @@ impl Row {
             Unit::Bytes => [median, upper_quarter, lower_quarter]
                 .map(|time| self.amount as f64 / time * 1_000.0),
         };
-        match self.unit {
-            Unit::Step => format!("{middle:.2} ({lower:.2} .. {upper:.2})"),
-            Unit::Bytes => format!("{middle:.0} ({lower:.0} .. {upper:.0})"),
-        }
+        let decimals = match self.unit {
+            // Rows that are passed over take less than a tenth.
+            Unit::Step if middle < 0.1 => 3,
+            Unit::Step => 2,
+            Unit::Bytes => 0,
+        };
+        format!("{middle:.decimals$} ({lower:.decimals$} .. {upper:.decimals$})")
     }
 }
 
@@ -183,6 +189,10 @@ mod tests {
             "trial ns/step 30.00 (15.00 .. 60.00) 20.00 (10.00 .. 40.00) 1.50"
         );
         assert_eq!(
+            words(written(Unit::Step, 25_000)),
+            "trial ns/step 0.12 (0.06 .. 0.24) 0.080 (0.040 .. 0.160) 1.50"
+        );
+        assert_eq!(
             words(written(Unit::Bytes, 6_000)),
             "trial MB/s 2000 (1000 .. 4000) 3000 (1500 .. 6000) 1.50"
         );
@@ -196,12 +206,13 @@ mod tests {
     }
 
     /// What is timed is what it is meant to be: walks that no refusal stops, captures
-    /// that are explained, causes that send them, and lists with as many changes as their
-    /// rows say.
+    /// that are explained, causes that send them, and lines and lists with as many changes as
+    /// their rows say.
     #[test]
     fn the_work_is_not_refused() {
         steps::check(&Peer);
         captures::check(&Peer);
+        lines::check(&Peer);
         causes::check(&Peer);
         switches::check(&Peer);
         books::check(&Peer);

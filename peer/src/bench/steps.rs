@@ -29,17 +29,10 @@ struct Walk {
 }
 
 /// A step with no command and nothing from the far end.
-const NOTHING: Given = Given {
-    received: pairs::IDLE,
-    command: 0,
-    channel: 0,
-};
+const NOTHING: Given = Given::pair(pairs::IDLE);
 
 /// The far end asks for a forced switch of section 1.
-const SWITCHED: Given = Given {
-    received: [0xE1, 0x08],
-    ..NOTHING
-};
+const SWITCHED: Given = Given::pair([0xE1, 0x08]);
 
 const DEGRADED: u8 = 1;
 
@@ -95,16 +88,7 @@ fn draw_step(run: &mut Run) -> ([u8; MOST_CONDITIONS], Given) {
     let given = run.draw();
     let mut conditions = [0; MOST_CONDITIONS];
     conditions[..run.conditions.len()].copy_from_slice(&run.conditions);
-    let [k1, k2] = given.received;
-    run.record = controller::step(
-        run.record,
-        k1,
-        k2,
-        &run.conditions,
-        given.command,
-        given.channel,
-    )
-    .record;
+    run.go(given);
     (conditions, given)
 }
 

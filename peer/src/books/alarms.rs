@@ -20,7 +20,7 @@ pub fn captures() -> Vec<Capture> {
     captures
 }
 
-fn told() -> Vec<Told> {
+pub fn told() -> Vec<Told> {
     let scenes = scenes();
     let open = scenes.iter().flat_map(Scene::tellings);
     let locked = scenes.iter().flat_map(Scene::locked_tellings);
@@ -29,7 +29,7 @@ fn told() -> Vec<Told> {
 
 /// Runs with alarms; others in which the line goes on from some step as if no alarm
 /// had come; and the first with one pair replaced.
-fn drawn() -> Vec<Capture> {
+pub fn drawn() -> Vec<Capture> {
     let mut draws = Draws::from_seed(SEED);
     let draw = |number| {
         let habit = if number % 2 == 0 { COMMON } else { LOCKED }.with_alarms();

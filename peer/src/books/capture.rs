@@ -74,10 +74,6 @@ impl Capture {
 pub struct Told {
     pub capture: Capture,
     /// The first step without an explanation, if there is one.
-    #[cfg_attr(
-        not(test),
-        expect(dead_code, reason = "it is the tests that look at it")
-    )]
     pub wrong: Option<usize>,
 }
 

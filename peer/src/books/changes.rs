@@ -1,8 +1,10 @@
 //! Runs with something changed in them. Many still have an explanation, often by
-//! other causes than those they were made under.
+//! other causes than those they were made under. In a third of the runs most rows repeat
+//! the row before.
 
 use super::capture::{row, Capture, Settings};
 use super::pairs;
+use super::repeats;
 use super::runs::{self, COMMON, LONGEST};
 use crate::draws::Draws;
 use std::collections::BTreeSet;
@@ -68,9 +70,12 @@ pub fn replace(draws: &mut Draws, capture: &mut Capture) {
 
 fn changed(seed: u64, count: usize, change: Change) -> Vec<Capture> {
     let mut draws = Draws::from_seed(seed);
-    let draw = |_| {
+    let draw = |number| {
         let steps = 1 + draws.place(MOST_STEPS);
-        let mut capture = runs::draw_of_any_settings(&mut draws, COMMON, steps);
+        let mut capture = match number % 3 {
+            0 => repeats::draw(&mut draws, steps),
+            _ => runs::draw_of_any_settings(&mut draws, COMMON, steps),
+        };
         change(&mut draws, &mut capture);
         capture
     };

@@ -24,7 +24,7 @@ pub fn captures() -> Vec<Capture> {
     captures
 }
 
-fn told() -> Vec<Told> {
+pub fn told() -> Vec<Told> {
     scenes().iter().flat_map(Scene::tellings).collect()
 }
 
@@ -44,7 +44,7 @@ pub fn draw(draws: &mut Draws, covered: usize) -> Capture {
 }
 
 /// Runs under causes that keep LO up, and the same with one pair replaced.
-fn drawn() -> Vec<Capture> {
+pub fn drawn() -> Vec<Capture> {
     let mut draws = Draws::from_seed(SEED);
     let draw = |_| {
         let steps = 1 + draws.place(30);

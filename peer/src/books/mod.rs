@@ -7,6 +7,7 @@ mod commands;
 pub mod damage;
 pub mod lockout;
 pub mod pairs;
+pub mod repeats;
 pub mod runs;
 mod steps;
 mod unfit;
@@ -44,7 +45,7 @@ const EXPLAINED: &[Kind] = &[Kind::Explained];
 const BOTH: &[Kind] = &[Kind::Explained, Kind::Unexplained];
 const ALL: &[Kind] = &[Kind::Explained, Kind::Unexplained, Kind::RefusedBook];
 
-pub const GROUPS: [Group; 12] = [
+pub const GROUPS: [Group; 13] = [
     group("runs", EXPLAINED, || bind(&runs::captures())),
     group("flipped", BOTH, || bind(&changes::flipped())),
     group("cut", BOTH, || bind(&changes::cut())),
@@ -54,6 +55,7 @@ pub const GROUPS: [Group; 12] = [
     group("lockout", BOTH, || bind(&lockout::captures())),
     group("alarms", BOTH, || bind(&alarms::captures())),
     group("waits", BOTH, || bind(&waits::captures())),
+    group("repeats", BOTH, || bind(&repeats::captures())),
     group("commands", BOTH, || bind(&commands::captures())),
     group("steps", BOTH, || bind(&steps::captures())),
     group("damaged", ALL, damage::books),
@@ -71,6 +73,7 @@ mod tests {
     use crate::book::{self, Contents};
     use crate::judge::{judge, scan};
     use crate::programs::Job;
+    use repeats::most_repeat;
 
     /// Without those that stand in damaged books.
     #[test]
@@ -104,6 +107,28 @@ mod tests {
             }
         }
         assert!(captures >= 8_000, "{captures}");
+    }
+
+    #[test]
+    fn most_rows_repeat_in_a_third_of_the_drawn_captures() {
+        let drawn = [
+            runs::captures(),
+            changes::flipped(),
+            changes::cut(),
+            changes::swapped(),
+            changes::replaced(),
+            changes::resettled(),
+            lockout::drawn(),
+            alarms::drawn(),
+            repeats::drawn(),
+        ]
+        .concat();
+        let repeating = drawn.iter().filter(|run| most_repeat(&run.rows)).count();
+        assert!(
+            3 * repeating >= drawn.len(),
+            "{repeating} of {}",
+            drawn.len()
+        );
     }
 
     #[test]

@@ -9,7 +9,7 @@ use crate::draws::Draws;
 use crate::judge::Row;
 use crate::pair::Request;
 use std::convert::identity;
-use std::iter::repeat_n;
+use std::iter::{once, repeat, repeat_n};
 
 const SEED: u64 = 1;
 const SHORT: usize = 3_500;
@@ -121,6 +121,22 @@ pub fn draw_going_deaf(
     Capture::new(settings, rows)
 }
 
+/// No row repeats the one before it: what befalls a step is drawn until it does not.
+pub fn draw_busy(draws: &mut Draws, habit: Habit, settings: Settings, steps: usize) -> Capture {
+    let mut run = Run::new(draws, habit, settings);
+    let mut rows: Vec<Row> = Vec::new();
+    while rows.len() < steps {
+        let before = run.record;
+        let row = run.step(identity);
+        if rows.last() == Some(&row) {
+            run.record = before;
+        } else {
+            rows.push(row);
+        }
+    }
+    Capture::new(settings, rows)
+}
+
 /// Small groups come up in half of the runs: there the judge tries everything.
 pub fn draw_settings(draws: &mut Draws) -> Settings {
     let most = draws.pick(&[3, 14]);
@@ -142,9 +158,20 @@ pub struct Given {
     pub channel: u8,
 }
 
+impl Given {
+    /// That pair, and no command.
+    pub const fn pair(received: [u8; 2]) -> Self {
+        Self {
+            received,
+            command: 0,
+            channel: 0,
+        }
+    }
+}
+
 /// A run between two steps.
 pub struct Run<'a> {
-    draws: &'a mut Draws,
+    pub draws: &'a mut Draws,
     habit: Habit,
     /// What the last step left, and the next starts from.
     pub record: Record,
@@ -174,15 +201,33 @@ impl<'a> Run<'a> {
 
     /// The controller is handed what `hears` makes of the received pair.
     fn step(&mut self, hears: impl Fn([u8; 2]) -> [u8; 2]) -> Row {
+        let given = self.draw();
+        let heard = Given {
+            received: hears(given.received),
+            ..given
+        };
+        let [_, _, sent @ ..] = self.go(heard);
+        row(given.received, sent)
+    }
+
+    /// So many steps, in all of which the conditions and the pair are the same. A command is
+    /// given in the first of them.
+    pub fn last(&mut self, given: Given, steps: usize) -> Vec<Row> {
+        let later = Given::pair(given.received);
+        let given = once(given).chain(repeat(later)).take(steps);
+        given.map(|given| self.go(given)).collect()
+    }
+
+    /// A step with what it is given, under the conditions as they are.
+    pub fn go(&mut self, given: Given) -> Row {
         let Given {
-            received,
+            received: [k1, k2],
             command,
             channel,
-        } = self.draw();
-        let [k1, k2] = hears(received);
+        } = given;
         let answer = controller::step(self.record, k1, k2, &self.conditions, command, channel);
         self.record = answer.record;
-        row(received, [answer.k1, answer.k2])
+        row(given.received, [answer.k1, answer.k2])
     }
 
     /// Mostly what an end at the other side could say to what was sent last.
@@ -270,6 +315,7 @@ impl<'a> Run<'a> {
 mod tests {
     use super::*;
     use crate::controller::by_01;
+    use crate::judge::Verdict;
     use std::collections::BTreeMap;
 
     /// The long runs alone have more steps, so they are left out.
@@ -298,6 +344,47 @@ mod tests {
         let steps = captures[LONG.len()..].iter().map(|run| run.rows.len());
         assert_eq!(steps.clone().min(), Some(0));
         assert_eq!(steps.max(), Some(40));
+    }
+
+    #[test]
+    fn no_row_of_a_busy_run_repeats_the_one_before() {
+        let mut draws = Draws::from_seed(SEED);
+        for steps in 0..60 {
+            let settings = draw_settings(&mut draws);
+            let run = draw_busy(&mut draws, COMMON, settings, steps);
+            assert!(run.rows.windows(2).all(|pair| pair[0] != pair[1]));
+            assert_eq!(run.judged(), Verdict::Explained(steps), "{run:?}");
+        }
+    }
+
+    /// By hand from the rules: a command is given once and held, and a wait of two steps
+    /// follows a fail.
+    #[test]
+    fn what_lasts_is_the_same_in_each_step() {
+        let settings = Settings {
+            n: 2,
+            mask: 0,
+            w: 2,
+        };
+        let mut draws = Draws::from_seed(SEED);
+        let mut run = Run::new(&mut draws, COMMON, settings);
+        let sent = |rows: Vec<Row>| rows.iter().map(|row| row[2]).collect::<Vec<u8>>();
+        let forced = Given {
+            command: 3,
+            channel: 2,
+            ..Given::pair(pairs::IDLE)
+        };
+        assert_eq!(sent(run.last(forced, 3)), [0xE2; 3]);
+        let clear = Given {
+            command: 1,
+            ..Given::pair(pairs::IDLE)
+        };
+        run.conditions[1] = 2;
+        assert_eq!(sent(run.last(clear, 2)), [0xC1; 2]);
+        run.conditions[1] = 0;
+        let rows = run.last(Given::pair(pairs::IDLE), 4);
+        assert_eq!(sent(rows), [0x61, 0x61, 0x00, 0x00]);
+        assert!(run.last(clear, 0).is_empty());
     }
 
     /// Steps that 01 alone, without 02 d, would answer otherwise.

@@ -20,8 +20,14 @@ pub fn captures() -> Vec<Capture> {
 /// A capture of any group in which a section goes bad and is waited for, so many times. A
 /// wait is left when it has run out or, by a clear, before that.
 pub fn draw(draws: &mut Draws, times: usize) -> Capture {
+    let w = draws.pick(&[1, 2, 3, 6, 10]);
+    draw_of(draws, w, times)
+}
+
+/// The same with a wait of so many steps, which are not none.
+pub fn draw_of(draws: &mut Draws, w: u16, times: usize) -> Capture {
     let settings = Settings {
-        w: draws.pick(&[1, 2, 3, 6, 10]),
+        w,
         ..runs::draw_settings(draws)
     };
     let channel = 1 + draws.byte_below(settings.n);
@@ -67,15 +73,15 @@ fn long_waits(w: u16) -> [Told; 2] {
 
 /// The section that is waited for, and which the other end answers with RR.
 #[derive(Clone, Copy)]
-struct Section {
+pub struct Section {
     settings: Settings,
     channel: u8,
-    high: bool,
+    pub high: bool,
 }
 
 impl Section {
     /// Of high priority in one half of the groups.
-    fn last_of(n: u8, w: u16) -> Self {
+    pub fn last_of(n: u8, w: u16) -> Self {
         let high = (u16::from(n) + w) % 2 == 1;
         let mask = u16::from(high) << (n - 1);
         Self {
@@ -86,7 +92,7 @@ impl Section {
     }
 
     /// Sent while RR of the section is received, with the bridge of rule 6.
-    fn answered(&self, request: Request) -> Row {
+    pub fn answered(&self, request: Request) -> Row {
         let channel = self.channel;
         let sent = match request {
             Request::Nothing => said(request, 0, channel),
@@ -95,11 +101,11 @@ impl Section {
         row(said(Request::Reverse, channel, channel), sent)
     }
 
-    fn told(&self, rows: Vec<Row>, wrong: Option<usize>) -> Told {
+    pub fn told(&self, rows: Vec<Row>, wrong: Option<usize>) -> Told {
         Told::new(self.settings, rows, wrong)
     }
 
-    fn wait(&self) -> usize {
+    pub fn wait(&self) -> usize {
         self.settings.w.into()
     }
 
@@ -113,7 +119,7 @@ impl Section {
             .collect()
     }
 
-    fn waited(&self, fault: Request, length: usize) -> Vec<Row> {
+    pub fn waited(&self, fault: Request, length: usize) -> Vec<Row> {
         let mut rows = vec![row(IDLE, said(fault, self.channel, 0))];
         rows.resize(1 + length, self.answered(Request::WaitToRestore));
         rows

@@ -114,7 +114,7 @@ const SUBJECTS: [Subject; 18] = [
         name: "judge",
         least: 200_000,
         refusals: &[0, 1, 2, 8, 9],
-        kinds: &once(captures::KINDS),
+        kinds: &captures::KINDS,
         parts: captures::PARTS,
         compare: captures::compare,
     },

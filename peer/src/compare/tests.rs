@@ -1,5 +1,6 @@
 mod books;
 mod causes;
+mod repeats;
 mod switches;
 
 use super::*;
@@ -11,7 +12,8 @@ use crate::door::{
 use std::io::Write;
 
 /// This reading in the place of the library, with one function that is wrong, with no
-/// notion of alarms, or with another way with books, with lists or with causes.
+/// notion of alarms, or with another way with repeated rows, with books, with lists or with
+/// causes.
 struct Fake {
     wrong: &'static str,
 }
@@ -94,7 +96,8 @@ impl Door for Fake {
     }
 
     fn judge(&self, n: u8, mask: u16, wait: u16, capture: &[u8], out: &mut [u8; VERDICT]) -> u8 {
-        let refusal = Peer.judge(n, mask, wait, &self.hear_all(capture), out);
+        let judge = |capture: &[u8], out: &mut _| Peer.judge(n, mask, wait, capture, out);
+        let refusal = repeats::judge(self.wrong, &self.hear_all(capture), out, &judge);
         self.spoil("judge", out);
         refusal
     }

@@ -1,6 +1,6 @@
 //! The judge once more (paper: "The judge"), made for speed: one scan over the
-//! rows, and the same few operations for each of them, whatever the size of the
-//! group.
+//! rows, and the same few operations for each that differs from the one before, whatever
+//! the size of the group.
 //!
 //! What a step can send hangs on the record before it. The K1 last sent and the
 //! steps of wait left are seen in the capture. The accepted pair is not, but it is
@@ -12,6 +12,27 @@
 //! Conditions and commands are not tried. Any of them can come up in a step, and a
 //! clear drops the command held and the wait; so every request can be the local
 //! one, unless rule 2 or 3 shuts it out.
+//!
+//! Most rows of a line repeat the row before. Behind a row that is explained, and sends
+//! anything but WTR, such a row leaves all as it was, so that it need only be found to
+//! be the same:
+//!
+//! - What can be sent next hangs on the K1 last sent, which is the same, and on the wait.
+//!   Of that nothing is left unless WTR is sent (rule 5), and what a fail or degrade starts
+//!   is W each time (rule 3).
+//! - No explanation is lost. What made the row goes on: a condition lasts, a command that
+//!   was sent is held (rule 2), and RR and NR need nobody. And the pair that was accepted is
+//!   received once more, or left, or is 00 08 once more (rule 1). So each record that the
+//!   row has led to leads to itself.
+//! - None is gained by the received pair. It is the accepted one now only if section 0 is
+//!   good, and what is sent not shut out. So it was in the row before, unless that had no
+//!   explanation but a failed section 0: then D0 is sent, which a good one never sends, or
+//!   LO, which is never shut out.
+//! - Nor is one gained by 00 08. It is the accepted pair now if it was before, or if section
+//!   0 fails in this row, and then what is sent let it fail in the row before as well.
+//!
+//! A row that sends WTR differs in the wait alone, of which each repetition takes one step
+//! off (rule 3), and which shuts it out when nothing is left.
 
 use super::{admit, Row, Verdict};
 use crate::controller::Record;
@@ -23,6 +44,9 @@ use std::hint::select_unpredictable as choose;
 const GOOD_LINE: u8 = 0b1000;
 const REMOTE_DEFECT: u8 = 0b1110;
 const ALARM: u8 = 0b1111;
+
+/// A bit for each of those last four bits that a usable pair can have.
+const USABLE_LINES: u16 = 1 << GOOD_LINE | 1 << REMOTE_DEFECT;
 
 const FAIL_OF_PROTECTION: u16 = 0xD008;
 const LOCKOUT_OF_PROTECTION: u16 = 0xF008;
@@ -66,12 +90,45 @@ pub fn judge(n: u8, mask: u16, wait: u16, capture: &[u8]) -> Result<Verdict, u8>
     Ok(scan(start, rows))
 }
 
+/// Row by row where they differ, and at once over those that repeat a row.
 pub fn scan(start: Record, rows: &[Row]) -> Verdict {
     let mut line = Line::new(start);
-    match rows.iter().position(|&row| !line.explains(row)) {
-        Some(step) => Verdict::Unexplained(step),
-        None => Verdict::Explained(rows.len()),
+    let mut rest = rows;
+    while let Some(place) = line.goes_until(rest) {
+        if !line.is_explained() {
+            return Verdict::Unexplained(rows.len() - rest.len() + place);
+        }
+        let (row, behind) = (rest[place], &rest[place + 1..]);
+        rest = &behind[line.pass_over(row, repetitions(row, behind))..];
     }
+    match rest.last() {
+        Some(&row) if !line.explains(row) => Verdict::Unexplained(rows.len() - 1),
+        _ => Verdict::Explained(rows.len()),
+    }
+}
+
+/// The rows that are compared at once. More of them would be found the same hardly sooner,
+/// and leave more to be compared one by one where a run ends.
+pub const BLOCK: usize = 32;
+
+/// How many rows from the first on are that row.
+///
+/// Not inlined, so that the scan has its registers for rows that differ.
+#[inline(never)]
+fn repetitions(row: Row, rows: &[Row]) -> usize {
+    let (blocks, _) = rows.as_chunks::<BLOCK>();
+    let whole = blocks.iter().take_while(|block| is_all(row, block));
+    let whole = whole.count() * BLOCK;
+    let others = rows[whole..].iter();
+    whole + others.take_while(|&&other| other == row).count()
+}
+
+/// Looks at each row of the block, whatever the one before it was, which takes few
+/// instructions for many rows.
+fn is_all(row: Row, block: &[Row; BLOCK]) -> bool {
+    let row = u32::from_ne_bytes(row);
+    let differing = |found, &other: &Row| found | (u32::from_ne_bytes(other) ^ row);
+    block.iter().fold(0, differing) == 0
 }
 
 /// Some K1: for each code a set of channels, where bit c is channel c.
@@ -140,9 +197,7 @@ impl Heard {
     #[inline(always)]
     pub fn receive(&mut self, k1: u8, k2: u8) -> bool {
         let line = k2 & 0b1111;
-        let usable = ((line == GOOD_LINE) | (line == REMOTE_DEFECT))
-            & (k2 >> 4 <= self.n)
-            & self.usable.has(k1);
+        let usable = (USABLE_LINES >> line & 1 == 1) & (k2 >> 4 <= self.n) & self.usable.has(k1);
         self.k1 = choose(usable, k1, self.k1);
         self.kept |= usable;
         usable
@@ -197,6 +252,16 @@ impl Line {
         }
     }
 
+    /// The first row that is not explained, or that the next one repeats. All rows up to it
+    /// have been looked at; if there is none, all but the last, which no row is behind.
+    ///
+    /// Both are asked for at once, so that there is one branch for each row.
+    #[inline(always)]
+    fn goes_until(&mut self, rows: &[Row]) -> Option<usize> {
+        rows.windows(2)
+            .position(|pair| !self.explains(pair[0]) | (pair[0] == pair[1]))
+    }
+
     /// Whether the rows still have an explanation with this one.
     ///
     /// No choice here is made by a branch, which would be taken in one row and not
@@ -213,7 +278,27 @@ impl Line {
         self.lost &= open & lost;
         self.lost |= can_be_failed(sent, sent_k2);
         self.go_on(sent);
+        self.is_explained()
+    }
+
+    fn is_explained(&self) -> bool {
         self.heard.kept | self.lost
+    }
+
+    /// How many repetitions, of those that are there, of the row that was just explained
+    /// are explained without a look at them: see the head of this module.
+    #[inline(always)]
+    fn pass_over(&mut self, [_, _, sent, _]: Row, repetitions: usize) -> usize {
+        if sent >> 4 != Request::WaitToRestore.code() {
+            return repetitions;
+        }
+        // Of more than are waited for the next one is left to be looked at.
+        let waited = repetitions.min(self.wait.into());
+        self.wait -= waited as u16;
+        if self.wait == 0 {
+            self.open.set(Request::WaitToRestore, NO_CHANNEL);
+        }
+        waited
     }
 
     /// What the next step can send: rules 2, 3 and 5.

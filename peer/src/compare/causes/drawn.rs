@@ -5,7 +5,7 @@ use super::{kinds, Given};
 use crate::book;
 use crate::books::capture::{Capture, Settings};
 use crate::books::runs::{self, COMMON, CROWDED, LOCKED};
-use crate::books::{self, lockout, waits};
+use crate::books::{self, lockout, repeats, waits};
 use crate::compare::captures::{alter, flat, ALTERATIONS, LONGEST, SHORT_BELOW};
 use crate::compare::tally::{Caller, Tally};
 use crate::door::Door;
@@ -31,18 +31,20 @@ pub fn drawn(library: &dyn Door, part: usize) -> Tally {
     caller.tally
 }
 
-/// Runs as they are, and some that are altered. Others are made for what LO leaves open,
-/// and for waits.
+/// Runs as they are, in a third of which most rows repeat, and some that are altered.
+/// Others are made for what LO leaves open, and for waits.
 fn draw(bits: &mut Bits, draws: &mut Draws) -> Capture {
     let steps = bits.place(SHORT_BELOW);
-    match bits.below(16) {
+    let mut run = match bits.below(16) {
         0 => return lockout::draw(draws, steps),
         1 => return waits::draw(draws, 1 + steps % 4),
-        _ => {}
-    }
-    let habit = bits.pick(&[COMMON, COMMON, LOCKED, CROWDED]);
-    let habit = bits.pick(&[habit, habit.with_alarms()]);
-    let mut run = runs::draw_of_any_settings(draws, habit, steps);
+        2..7 => repeats::draw(draws, bits.pick(&[steps, 3 * steps])),
+        _ => {
+            let habit = bits.pick(&[COMMON, COMMON, LOCKED, CROWDED]);
+            let habit = bits.pick(&[habit, habit.with_alarms()]);
+            runs::draw_of_any_settings(draws, habit, steps)
+        }
+    };
     if bits.once_in(5) {
         let sort = bits.below(ALTERATIONS);
         alter(bits, draws, &mut run, sort);
@@ -50,10 +52,13 @@ fn draw(bits: &mut Bits, draws: &mut Draws) -> Capture {
     run
 }
 
-/// As long as can be, mostly; some under LO from the first step to the last but one.
+/// As long as can be, mostly; some under LO from the first step to the last but one, some
+/// in which most rows repeat.
 fn draw_long(bits: &mut Bits, draws: &mut Draws) -> Capture {
-    if bits.once_in(4) {
-        return lockout::draw(draws, LONGEST - 2);
+    match bits.below(16) {
+        0..4 => return lockout::draw(draws, LONGEST - 2),
+        4..8 => return repeats::draw(draws, LONGEST),
+        _ => {}
     }
     let any = bits.place(LONGEST);
     let steps = bits.pick(&[LONGEST, LONGEST, any]);

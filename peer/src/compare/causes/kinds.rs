@@ -2,6 +2,7 @@
 
 use super::Words;
 use crate::books::capture::{has_alarm, Settings};
+use crate::books::repeats::{go_back, most_repeat, wait_on};
 use crate::compare::captures::LONGEST;
 use crate::compare::tally::Tally;
 use crate::compare::Due;
@@ -21,6 +22,11 @@ enum Kind {
     AllHigh,
     NoWait,
     Alarm,
+    /// Most rows repeat the row before. Of those: a row comes again behind another, and rows
+    /// that send WTR repeat.
+    Repeating,
+    ChangeBack,
+    RunOfWaits,
     /// LO left it open which pair is the accepted one, and a later step shows that section
     /// 0 had failed, or had not.
     FailedUnseen,
@@ -50,6 +56,9 @@ pub const DRAWN_KINDS: [Due; KINDS] = [
     ("all high", 10_000),
     ("W = 0", 5_000),
     ("alarm", 10_000),
+    ("most rows repeat", 40_000),
+    ("most rows repeat, with changes back", 10_000),
+    ("most rows repeat, with runs of WTR", 5_000),
     ("failed unseen, shown later", 5_000),
     ("not failed, shown later", 5_000),
     ("wait after a fail", 5_000),
@@ -107,9 +116,10 @@ pub fn count(tally: &mut Tally, settings: Settings, rows: &[Row], words: Option<
     kinds.chain([sizes]).for_each(|kind| tally.count(kind));
 }
 
-fn of_capture(settings: Settings, rows: &[Row]) -> [(Kind, bool); 8] {
+fn of_capture(settings: Settings, rows: &[Row]) -> [(Kind, bool); 11] {
     let Settings { n, mask, w } = settings;
     let all = (1 << n) - 1;
+    let repeating = most_repeat(rows);
     [
         (Kind::Explained, true),
         (Kind::NoSteps, rows.is_empty()),
@@ -119,6 +129,9 @@ fn of_capture(settings: Settings, rows: &[Row]) -> [(Kind, bool); 8] {
         (Kind::AllHigh, mask == all),
         (Kind::NoWait, w == 0),
         (Kind::Alarm, rows.iter().any(has_alarm)),
+        (Kind::Repeating, repeating),
+        (Kind::ChangeBack, repeating && go_back(rows)),
+        (Kind::RunOfWaits, repeating && wait_on(rows)),
     ]
 }
 

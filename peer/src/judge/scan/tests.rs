@@ -2,6 +2,7 @@ use super::*;
 use crate::books::capture::Settings;
 use crate::books::runs::{self, Habit, COMMON, LOCKED};
 use crate::books::{changes, pairs};
+use crate::controller::step;
 use crate::draws::Draws;
 use crate::judge::{causes, explain, reached_by, Cause};
 use crate::pair;
@@ -207,4 +208,157 @@ fn the_judges_agree_on_rows_of_any_pairs() {
             assert_agree(settings, &rows, &causes);
         }
     }
+}
+
+/// Runs of every length about the ends of blocks, which a row ends that differs in one byte.
+#[test]
+fn repetitions_are_counted_to_the_first_byte_that_differs() {
+    let row = [0x21, 0x18, 0xC1, 0x18];
+    for length in 0..=3 * BLOCK + 1 {
+        let run = vec![row; length];
+        assert_eq!(repetitions(row, &run), length);
+        for byte in 0..row.len() {
+            let mut other = row;
+            other[byte] ^= 1;
+            assert_eq!(repetitions(other, &run), 0);
+            let ended = [&run[..], &[other], &run[..]].concat();
+            assert_eq!(repetitions(row, &ended), length);
+        }
+    }
+}
+
+/// All that a group of one section can be in: with each pair accepted, as far as its K2 does
+/// not matter, each K1 sent, and each wait left.
+fn records(settings: Settings) -> Vec<Record> {
+    let accepted = (0..=u8::MAX).map(|k1| [k1, 0x08]);
+    let sent = (0..=u8::MAX).flat_map(|sent| (0..=settings.w).map(move |left| (sent, left)));
+    let sent: Vec<(u8, u16)> = sent.collect();
+    accepted
+        .flat_map(|accepted| sent.iter().map(move |&(sent, left)| (accepted, sent, left)))
+        .map(|(accepted, sent, left)| Record {
+            accepted,
+            sent,
+            left,
+            ..settings.fresh()
+        })
+        .filter(|&record| step(record, 0x00, 0x08, &[0, 0], 0, 0).refusal == 0)
+        .collect()
+}
+
+/// What the scan rests on, by brute force: from each record, a row that is explained leads to
+/// the same records when it comes again; but if it sends WTR, to the same with a step less
+/// of the wait, if one is left.
+#[test]
+fn a_repeated_row_leads_to_the_same_records() {
+    let causes = causes(1);
+    let settings = Settings {
+        n: 1,
+        mask: 0,
+        w: 3,
+    };
+    let rows: Vec<Row> = all_rows().filter(|row| row[2] & 0b1111 <= 1).collect();
+    let mut led = [0; 2];
+    for record in records(settings) {
+        for &row in &rows {
+            let once = reached_by(&[record], row, &causes);
+            let waits = row[2] >> 4 == Request::WaitToRestore.code();
+            let twice = reached_by(&once, row, &causes);
+            assert!(is_repetition(&once, &twice, waits), "{record:?} {row:02X?}");
+            led[usize::from(waits)] += once.len();
+        }
+    }
+    assert!(led[0] >= 5_000 && led[1] >= 100, "{led:?}");
+}
+
+fn is_repetition(once: &[Record], twice: &[Record], waits: bool) -> bool {
+    let later = |record: &Record| Record {
+        left: record.left - u16::from(waits),
+        ..*record
+    };
+    let expected: Vec<Record> = once.iter().map(later).collect();
+    let expected = expected.iter().filter(|record| !waits || record.left > 0);
+    let expected: Vec<&Record> = expected.collect();
+    twice.len() == expected.len() && expected.iter().all(|record| twice.contains(record))
+}
+
+/// Rows of a group of one section: with nothing to say, with faults and the wait for them,
+/// answered and not, with commands, under LO, which may hide that section 0 has failed, and
+/// with an alarm.
+const REPEATED: [Row; 12] = [
+    [0x00, 0x08, 0x00, 0x08],
+    [0x11, 0x08, 0x00, 0x08],
+    [0x00, 0x08, 0xC1, 0x08],
+    [0x00, 0x08, 0x61, 0x08],
+    [0x21, 0x18, 0x61, 0x18],
+    [0x00, 0x08, 0x81, 0x08],
+    [0x00, 0x08, 0xE1, 0x08],
+    [0x81, 0x08, 0x21, 0x18],
+    [0x11, 0x08, 0x21, 0x18],
+    [0x81, 0x08, 0xF0, 0x08],
+    [0x11, 0x08, 0xF0, 0x08],
+    [0x81, 0x0F, 0xD0, 0x08],
+];
+
+/// What is tried: runs of up to so many of each row, and so many of them one behind the
+/// other.
+struct Trial {
+    settings: Settings,
+    causes: Vec<Cause>,
+    longest: usize,
+}
+
+impl Trial {
+    fn new(w: u16, longest: usize) -> Self {
+        Self {
+            settings: Settings { n: 1, mask: 0, w },
+            causes: causes(1),
+            longest,
+        }
+    }
+
+    /// Behind a front that leads to these records, and as far as rows are explained: what is
+    /// behind one that is not changes no verdict. Answers how many captures were tried.
+    fn agree(&self, front: &[Row], reached: &[Record], runs: usize) -> usize {
+        if runs == 0 {
+            return 0;
+        }
+        let tried = REPEATED.map(|row| self.agree_on_run(row, front, reached, runs));
+        tried.iter().sum()
+    }
+
+    fn agree_on_run(&self, row: Row, front: &[Row], reached: &[Record], runs: usize) -> usize {
+        let (mut rows, mut reached) = (front.to_vec(), reached.to_vec());
+        let mut tried = 0;
+        for _ in 0..self.longest {
+            rows.push(row);
+            reached = reached_by(&reached, row, &self.causes);
+            let verdict = told(&rows, !reached.is_empty());
+            assert_eq!(scan(self.settings.fresh(), &rows), verdict, "{rows:02X?}");
+            tried += 1;
+            if reached.is_empty() {
+                break;
+            }
+            tried += self.agree(&rows, &reached, runs - 1);
+        }
+        tried
+    }
+}
+
+/// Rows that come back among them, as A B A does.
+#[test]
+fn the_judges_agree_on_all_captures_of_three_runs() {
+    for w in 0..=3 {
+        let trial = Trial::new(w, 4);
+        let tried = trial.agree(&[], &[trial.settings.fresh()], 3);
+        assert!(tried >= 10_000, "{tried}");
+    }
+}
+
+/// Waits among them that are as long as the runs can be, and one step longer.
+#[test]
+fn the_judges_agree_on_all_captures_of_two_long_runs() {
+    let longest = BLOCK + 3;
+    let trial = Trial::new(longest as u16 - 1, longest);
+    let tried = trial.agree(&[], &[trial.settings.fresh()], 2);
+    assert!(tried >= 50_000, "{tried}");
 }
