@@ -12,7 +12,7 @@ use borrow.Author.Tests.{eqb-true, eqb-false, eq-eqb, ltb-true, ltb-false}
 use Rattle.repeats.specs.Repeats.{alike, Uniform, Gone, Past, Run}
 
 module _ (bytes : List ℕ) (piece at : ℕ) where
-  abbrev pub Same : ℕ → Type 0
+  abbrev Same : ℕ → Type 0
   Same i = getD bytes (piece + i) 0 ≡ getD bytes (at + i) 0
 
   abbrev test : ℕ → Bool
@@ -21,7 +21,7 @@ module _ (bytes : List ℕ) (piece at : ℕ) where
   pub alike-on : (i : ℕ) {all : Bool} → all ≡ alike bytes piece at i → all && test i ≡ alike bytes piece at (i + 1)
   alike-on i so = ap (λ (t : Bool). t && test i) so ∙ ap (alike bytes piece at) (sym (add-one i))
 
-  pub alike-at : (size : ℕ) → alike bytes piece at size ≡ true → (i : ℕ) → i < size → Same i
+  alike-at : (size : ℕ) → alike bytes piece at size ≡ true → (i : ℕ) → i < size → Same i
   alike-at zero all i h = absurd (omega arith)
   alike-at (suc size) all i h =
       let both = and-eq-true-iff (alike bytes piece at size) (test size) .0 all in
@@ -49,63 +49,23 @@ row-uniform bytes row room =
       rows = λ i few. let is : i ≡ i % 4 = omega arith in ap (λ (k : ℕ). getD bytes (row + k) 0) is;
     }
 
+-- a piece that is alike is a run by itself
+piece-gone : (bytes : List ℕ) (row at : ℕ) {size : ℕ} → Uniform bytes row size → alike bytes row at size ≡ true
+    → Gone bytes row at (at + size)
+piece-gone bytes row at {size} uniform all =
+    let whole = uniform .whole in
+    record {
+      later = omega arith;
+      whole = omega arith;
+      same = λ i few. sym (alike-at bytes row at size all i (omega arith)) ∙ uniform .rows i (omega arith);
+    }
+
 module _ {bytes : List ℕ} {row from : ℕ} where
   pub gone-start : Gone bytes row from from
   gone-start = record { later = omega arith; whole = omega arith; same = λ i few. absurd (omega arith) }
 
-  -- one more piece that is alike
-  pub gone-next : {at size : ℕ} → Uniform bytes row size → Gone bytes row from at → alike bytes row at size ≡ true
-      → Gone bytes row from (at + size)
-  gone-next {at} {size} uniform gone all =
-      let later = gone .later in
-      let whole = gone .whole in
-      let whole2 = uniform .whole in
-      record { later = omega arith; whole = omega arith; same = same }
-    where
-      same : (i : ℕ) → from + i < at + size → getD bytes (from + i) 0 ≡ getD bytes (row + i % 4) 0
-      same i few = go (ltb (from + i) at) refl
-        where
-          go : (t : Bool) → ltb (from + i) at ≡ t → getD bytes (from + i) 0 ≡ getD bytes (row + i % 4) 0
-          go true e = gone .same i (ltb-true (from + i) at e)
-          go false e =
-              let behind = ltb-false (from + i) at e in
-              let later = gone .later in
-              let whole = gone .whole in
-              let k = from + i - at in
-              let here : at + k ≡ from + i = omega arith in
-              let less : k < size = omega arith in
-              let column : k % 4 ≡ i % 4 = omega arith in
-              ap (λ (j : ℕ). getD bytes j 0) (sym here)
-              ∙ sym (alike-at bytes row at size all k less)
-              ∙ uniform .rows k less
-              ∙ ap (λ (j : ℕ). getD bytes (row + j) 0) column
-
-  -- a run of as many bytes is a piece whose rows are all the same
-  pub gone-uniform : (size : ℕ) → 0 < size → size % 4 ≡ 0 → Gone bytes row from (from + size) → from + size ≤ length bytes
-      → Uniform bytes from size
-  gone-uniform size some whole gone room = record { some = some; whole = whole; within = room; rows = rows }
-    where
-      rows : (i : ℕ) → i < size → getD bytes (from + i) 0 ≡ getD bytes (from + i % 4) 0
-      rows i few =
-          let column : i % 4 % 4 ≡ i % 4 = omega arith in
-          gone .same i (omega arith)
-          ∙ sym (gone .same (i % 4) (omega arith) ∙ ap (λ (k : ℕ). getD bytes (row + k) 0) column)
-
-  -- a run, and behind it a run of its own first row
-  pub gone-like : {middle at : ℕ} → from + 4 ≤ middle → Gone bytes row from middle → Gone bytes from middle at
-      → Gone bytes row middle at
-  gone-like {middle} {at} some one two =
-      record {
-        later = two .later;
-        whole = two .whole;
-        same =
-            λ i few.
-            let column : i % 4 % 4 ≡ i % 4 = omega arith in
-            two .same i few ∙ one .same (i % 4) (omega arith) ∙ ap (λ (k : ℕ). getD bytes (row + k) 0) column;
-      }
-
   -- one run behind another
-  pub gone-on : {middle at : ℕ} → Gone bytes row from middle → Gone bytes row middle at → Gone bytes row from at
+  gone-on : {middle at : ℕ} → Gone bytes row from middle → Gone bytes row middle at → Gone bytes row from at
   gone-on {middle} {at} one two =
       let later = one .later in
       let later2 = two .later in
@@ -128,6 +88,35 @@ module _ {bytes : List ℕ} {row from : ℕ} where
               ap (λ (j : ℕ). getD bytes j 0) (sym here)
               ∙ two .same k (omega arith)
               ∙ ap (λ (j : ℕ). getD bytes (row + j) 0) column
+
+  -- one more piece that is alike
+  pub gone-next : {at size : ℕ} → Uniform bytes row size → Gone bytes row from at → alike bytes row at size ≡ true
+      → Gone bytes row from (at + size)
+  gone-next {at} {size} uniform gone all = gone-on gone (piece-gone bytes row at uniform all)
+
+  -- a run of as many bytes is a piece whose rows are all the same
+  gone-uniform : (size : ℕ) → 0 < size → size % 4 ≡ 0 → Gone bytes row from (from + size) → from + size ≤ length bytes
+      → Uniform bytes from size
+  gone-uniform size some whole gone room = record { some = some; whole = whole; within = room; rows = rows }
+    where
+      rows : (i : ℕ) → i < size → getD bytes (from + i) 0 ≡ getD bytes (from + i % 4) 0
+      rows i few =
+          let column : i % 4 % 4 ≡ i % 4 = omega arith in
+          gone .same i (omega arith)
+          ∙ sym (gone .same (i % 4) (omega arith) ∙ ap (λ (k : ℕ). getD bytes (row + k) 0) column)
+
+  -- a run, and behind it a run of its own first row
+  gone-like : {middle at : ℕ} → from + 4 ≤ middle → Gone bytes row from middle → Gone bytes from middle at
+      → Gone bytes row middle at
+  gone-like {middle} {at} some one two =
+      record {
+        later = two .later;
+        whole = two .whole;
+        same =
+            λ i few.
+            let column : i % 4 % 4 ≡ i % 4 = omega arith in
+            two .same i few ∙ one .same (i % 4) (omega arith) ∙ ap (λ (k : ℕ). getD bytes (row + k) 0) column;
+      }
 
 -- The first block of a run ends with the bytes, if they are few, or behind sixteen rows.
 abbrev pub Near : ℕ → ℕ → ℕ → Type 0

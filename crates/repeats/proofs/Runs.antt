@@ -10,8 +10,8 @@ use lib.ListN.{length, getD, drop, length-drop}
 use borrow.Author.Tests.{eqb-true, eq-eqb, ltb-true, ltb-false, le-ltb}
 use Rattle.basics.specs.Capture.{Row, rowsOf, rowAt}
 use Rattle.basics.proofs.Rows.{rows-long, row-here}
-use Rattle.repeats.specs.Repeats.{back, sameRow, runOf, repeated, alike, Gone, Run}
-use Rattle.repeats.proofs.Pieces.{Same, alike-all}
+use Rattle.repeats.specs.Repeats.{back, sameRow, runOf, repeated, alike, Run}
+use Rattle.repeats.proofs.Pieces.{alike-all}
 
 -- rows are the same exactly if they are equal
 pub same-is : (p q : Row) → sameRow p q ≡ true → p ≡ q
