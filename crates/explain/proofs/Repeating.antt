@@ -78,10 +78,6 @@ module _ (d : Records) (r : Row) (goes : live (next d r) ≡ true)
   abbrev t : Controller
   t = next d r .controller
 
-  sent-again : asked (t .sent) ≡ x
-  unfolding next
-  sent-again = refl
-
   waited-again : waited (waitOf s (asked (s .sent)) 0) (asked (s .sent)) x ≡ true → waited (waitOf t x 0) x x ≡ true
   waited-again h =
       let last = asked (s .sent) in

@@ -49,6 +49,12 @@ module _ {bytes : List ℕ} {begin possible : Records} {at : ℕ} (w : Walk byte
       let q = w .small in
       omega arith
 
+  pub few-rows : {run : ℕ} → run ≡ repeated bytes (at + 4) → run < 65536
+  few-rows repeats =
+      let small = w .small in
+      let there = repeated-few bytes (at + 4) in
+      omega arith
+
   abbrev rest : List Row
   rest = rowsOf (drop (at + 4) bytes)
 
@@ -86,7 +92,7 @@ module _ {bytes : List ℕ} {begin possible : Records} {at : ℕ} (w : Walk byte
   walk-done h = rw (drop-of-length-le bytes h) at (w .remains)
 
   -- rows that repeat the one before the place are passed over
-  pub walk-past : (before : ℕ) → at ≡ before + 4 → Behind (rowAt bytes before) possible → (run few : ℕ)
+  walk-past : (before : ℕ) → at ≡ before + 4 → Behind (rowAt bytes before) possible → (run few : ℕ)
       → run ≡ repeated bytes at → few ≡ passes possible run → {new : Records} → new ≡ passed possible few
       → Walk bytes begin new (at + 4 * few)
   walk-past before stood behind run few repeats passing {new} is =
@@ -121,12 +127,6 @@ module _ {bytes : List ℕ} {begin possible : Records} {at : ℕ} (w : Walk byte
 module _ {bytes : List ℕ} {begin possible : Records} {at : ℕ} (w : Walk bytes begin possible at) (more : at < length bytes)
     {new : Records} (is : new ≡ next possible (rowAt bytes at)) (goes : live new ≡ true) {run : ℕ}
     (repeats : run ≡ repeated bytes (at + 4)) where
-  pub few-rows : run < 65536
-  few-rows =
-      let small = w .small in
-      let there = repeated-few bytes (at + 4) in
-      omega arith
-
   pub walk-run : {few : ℕ} → few ≡ passes new run → {past : Records} → past ≡ passed new few
       → Walk bytes begin past (at + 4 + 4 * few)
   walk-run {few} passing over =

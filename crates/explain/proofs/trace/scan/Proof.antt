@@ -90,10 +90,8 @@ repeated-requires c κs = search needs
 
 passes-requires : tie.Need-passes-requires Inv-loop μ-loop
 passes-requires c κs =
-    let seen = c .before .before in
-    let row = seen .before .before .before .before .before .before .before .before in
-    few-rows (row .before .loop .inv) (row .loop-test .taken) (seen .before .before .next .ensures)
-    (sym (seen .before .live .ensures) ∙ not-false (seen .before .live .result) (seen .if1 .left)) (c .before .repeated .ensures)
+    let row = c .before .before .before .before .before .before .before .before .before .before in
+    few-rows (row .before .loop .inv) (c .before .repeated .ensures)
 
 passed-requires : tie.Need-passed-requires Inv-loop μ-loop
 passed-requires c κs = search needs
