@@ -1,10 +1,10 @@
 /*
  * Chainplater: the K1/K2 coder, the controller for linear 1:n multiplex section protection (ITU-T G.841), the judge
- * of captured lines, the causes that explain them, the list of their switches, and the reader and writer of capture
- * books. The code behind these functions is proved; see README.md for what the proofs say and what they rest on.
+ * of captured lines, the causes that explain them, the list of their switches, the reader and writer of capture books,
+ * and the printed table of a book. The code behind these functions is proved; see README.md for what the proofs say and what they rest on.
  *
  * Every function takes every value of its arguments and ends. All but chainplater_k1, which has nothing to refuse and
- * returns nothing, return 0 or the number of a refusal:
+ * returns nothing, and chainplater_table, which puts a refusal into words, return 0 or the number of a refusal:
  *
  *    1  n is not 1 to 14                     20  a book of more than 65,536 bytes
  *    2  the mask has a bit at n or above     21  a book of fewer than 2 bytes
@@ -53,6 +53,7 @@ extern "C" {
 #define CHAINPLATER_CHANGE 3
 #define CHAINPLATER_CONTENTS 769
 #define CHAINPLATER_SIZE 4
+#define CHAINPLATER_PAGE 2048
 
 /*
  * A fresh controller for n sections, of which those in the mask (bit c - 1 for section c) are of high priority, with a
@@ -170,6 +171,17 @@ uint8_t chainplater_read(const uint8_t *book, size_t length, uint8_t out[CHAINPL
  */
 uint8_t chainplater_write(const uint8_t contents[CHAINPLATER_CONTENTS], const uint8_t *bodies, size_t length,
                           uint8_t *out, size_t room, uint8_t size[CHAINPLATER_SIZE]);
+
+/*
+ * The table of a book, as the program `judge` prints it, in ASCII. A header, `capture sections steps verdict at`; then a line
+ * for each capture: its number, counted from 0, its n, its steps, the word `explained` and the number of steps, or
+ * `unexplained` and the first step, counted from 0, up to which there is no explanation. Fields are apart by one space,
+ * numbers are decimal without leading zeros, and a line feed ends each line. A book without captures has the header alone.
+ * A book that chainplater_read refuses has the one line `refused N`, with the number of the refusal and a line feed.
+ * out: the text at its start, the bytes behind it as they were. No text has more than 1,708 characters; none ends in a 0.
+ * Returns the number of characters of the text.
+ */
+size_t chainplater_table(const uint8_t *book, size_t length, uint8_t out[CHAINPLATER_PAGE]);
 
 #ifdef __cplusplus
 }

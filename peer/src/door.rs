@@ -15,6 +15,7 @@ pub const CHANGES: usize = 2;
 pub const CHANGE: usize = 3;
 pub const CONTENTS: usize = 769;
 pub const SIZE: usize = 4;
+pub const PAGE: usize = 2048;
 
 /// What the causes of a capture are put into: a word of conditions and a word of command
 /// for each step.
@@ -23,10 +24,11 @@ pub struct Tables<'a> {
     pub commands: &'a mut [u16],
 }
 
-/// All of them fill what they are lent as the header says, and all but `k1`, which has
-/// nothing to refuse, answer the refusal, or 0. Where the header has K1 and K2 of a
-/// received pair, here is the pair; where it has a list and how long that is, here is
-/// the list; and the two tables of causes go together.
+/// All of them fill what they are lent as the header says, and all but two answer the
+/// refusal, or 0: `k1` has nothing to refuse, and `table` answers the length of its text,
+/// which tells of a refusal. Where the header has K1 and K2 of a received pair, here is
+/// the pair; where it has a list and how long that is, here is the list; and the two
+/// tables of causes go together.
 pub trait Door: Sync {
     fn fresh(&self, n: u8, mask: u16, wait: u16, record: &mut [u8; RECORD]) -> u8;
 
@@ -86,6 +88,8 @@ pub trait Door: Sync {
         out: &mut [u8],
         size: &mut [u8; SIZE],
     ) -> u8;
+
+    fn table(&self, book: &[u8], out: &mut [u8; PAGE]) -> usize;
 }
 
 #[cfg(test)]

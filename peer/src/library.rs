@@ -12,7 +12,8 @@
 #![allow(unsafe_code)]
 
 use crate::door::{
-    Door, Tables, CHANGE, CHANGES, CONTENTS, DECODED, ENCODED, K1, RECORD, SIZE, STEP, VERDICT,
+    Door, Tables, CHANGE, CHANGES, CONTENTS, DECODED, ENCODED, K1, PAGE, RECORD, SIZE, STEP,
+    VERDICT,
 };
 
 /// As in the header, with its `size_t` as `usize`.
@@ -95,6 +96,8 @@ mod declared {
             room: usize,
             size: *mut u8,
         ) -> u8;
+
+        pub fn chainplater_table(book: *const u8, length: usize, out: *mut u8) -> usize;
     }
 }
 
@@ -275,5 +278,12 @@ impl Door for Library {
                 size.as_mut_ptr(),
             )
         }
+    }
+
+    #[inline]
+    fn table(&self, book: &[u8], out: &mut [u8; PAGE]) -> usize {
+        // SAFETY: `book` has the `length` bytes that are read, `out` the 2048 of which
+        // some are written; they do not overlap.
+        unsafe { declared::chainplater_table(book.as_ptr(), book.len(), out.as_mut_ptr()) }
     }
 }

@@ -75,8 +75,9 @@ mod switches;
 mod table;
 mod trials;
 
+use door::Door;
 use library::Library;
-use programs::Comparison;
+use programs::{Comparison, Others};
 use std::ffi::OsString;
 use std::io::{self, BufWriter, StdoutLock, Write};
 use std::path::Path;
@@ -142,10 +143,16 @@ fn finish(printed: io::Result<()>) -> ExitCode {
     }
 }
 
-/// With the file that is named, or else with that of the proved program.
+/// With the file that is named, or else with that of the proved program; and with the
+/// library, if it is linked.
 fn compare_program(comparison: &Comparison, named: Option<&OsString>) -> ExitCode {
     let program = named.map_or(Path::new(comparison.program), Path::new);
-    match comparison.compare(program) {
+    let library = library::linked();
+    let others = Others {
+        program,
+        library: library.as_ref().map(|library| library as &dyn Door),
+    };
+    match comparison.compare(others) {
         Ok(finding) => report(finding.clean, &finding.text),
         Err(error) => {
             complain(&format!("peer: cannot run {}: {error}", program.display()));

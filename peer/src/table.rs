@@ -27,10 +27,15 @@ pub enum Table<T> {
 
 impl<T: Captured> Table<T> {
     pub fn of(book: &[u8]) -> Self {
+        Self::by(book, T::of)
+    }
+
+    /// With another way to come by what is printed of a capture.
+    pub fn by(book: &[u8], of: impl Fn(&[u8], &Entry) -> T) -> Self {
         match book::read(book) {
             Ok(contents) => {
                 let entries = contents.entries().unwrap_or_default();
-                Self::Captures(entries.iter().map(|entry| T::of(book, entry)).collect())
+                Self::Captures(entries.iter().map(|entry| of(book, entry)).collect())
             }
             Err(refusal) => Self::Refused(refusal.number()),
         }

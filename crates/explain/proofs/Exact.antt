@@ -144,7 +144,7 @@ module _ (n mask w : ℕ) (bytes : List ℕ) (j : Judging) (right : Right n mask
   abbrev rows : List Row
   rows = rowsOf bytes
 
-  found : Found n mask w rows j
+  pub found : Found n mask w rows j
   unfolding RightBehind
   found = rw none at right
 

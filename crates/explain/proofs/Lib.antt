@@ -1,4 +1,4 @@
--- Theorems is the front door; the rest are the laws behind it, two of them for the door for C and Rust too.
+-- Theorems is the front door; the rest are the laws behind it, three of them for the printed table and the door for C and Rust too.
 mod Scanning
 mod Ranking
 mod Single
@@ -16,7 +16,7 @@ mod Followed
 mod Repeating
 mod Passing
 mod Walking
-mod Judged
+pub mod Judged
 mod Words
 mod Reading
 mod Keeping

@@ -1,4 +1,4 @@
--- Theorems is the front door; the rest are the laws behind it.
+-- Theorems is the front door; the rest are the laws behind it, those of digits for the printed table too.
 mod Texts
-mod Numbers
+pub mod Numbers
 mod Theorems

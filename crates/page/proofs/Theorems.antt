@@ -9,7 +9,7 @@ use Rattle.io.specs.Digits.{digits, Fewest}
 use Rattle.page.specs.Text.{withText, textEnd, withTexts, textsEnd, joined, lineStart}
 use Rattle.page.specs.Digits.{decimal, hexadecimal, numberIn}
 use Rattle.page.proofs.Texts.{text-stands, end-put, text-dropped, end-kept, page-long, texts-joined, line-room}
-use Rattle.page.proofs.Numbers.{library-digits, decimal-back, hexadecimal-back}
+use Rattle.page.proofs.Numbers.{library-digits, decimal-few, decimal-back, hexadecimal-back}
 use Rattle.page.proofs.put.Kinds as put-kinds
 use Rattle.page.proofs.put.Reads as put-fn
 use Rattle.page.proofs.put.Statement as put-statement
@@ -123,13 +123,16 @@ texts-right = texts-joined
 line-right : (size at longest : ℕ) → longest ≤ size → lineStart size at longest + longest ≤ size
 line-right = line-room
 
--- The digits of a number of 64 bits read as that number, and are as few as hold it: those that the library writes. The two
--- of a byte read as that byte.
+-- The digits of a number of 64 bits read as that number, and no fewer hold it, so that none leads with a zero; they are those
+-- that the library writes. The two of a byte read as that byte.
 decimal-right : (v : ℕ) → v < 2 ^ 64 → numberIn 10 (decimal v) ≡ v
 decimal-right = decimal-back
 
-decimal-fewest : (k v : ℕ) → v < 2 ^ 64 → Fewest 10 1 v k → digits 10 k v ≡ decimal v
-decimal-fewest = library-digits
+decimal-fewest : (v : ℕ) → v < 2 ^ 64 → Fewest 10 1 v (length (decimal v))
+decimal-fewest = decimal-few
+
+decimal-library : (k v : ℕ) → v < 2 ^ 64 → Fewest 10 1 v k → digits 10 k v ≡ decimal v
+decimal-library = library-digits
 
 hexadecimal-right : (b : ℕ) → b < 256 → numberIn 16 (hexadecimal b) ≡ b
 hexadecimal-right = hexadecimal-back

@@ -1,23 +1,23 @@
--- Numbers as text, in ASCII.
-use mathlib.Core.List.{List, [], _∷_, _++_}
+-- Numbers as text, in ASCII. The decimal digits are the kit's own, `digits` of `io`.
+use mathlib.Core.List.{List, [], _∷_}
 use Prim.Native.Nat.{ℕ, zero, suc, _+_, _*_, _-_, _/_, _%_}
 use lib.Dec.{ltb}
 use Rattle.basics.specs.Choice.{if_then_else_}
+use Rattle.io.specs.Digits.{digits}
 
--- 0 to 9, and A to F
-abbrev pub digitOf : ℕ → ℕ
-digitOf d = if ltb d 10 then 48 + d else 55 + d
-
--- the decimal digits of v, the last one behind those of v / 10; at most k of them
-abbrev pub decimalIn : ℕ → ℕ → List ℕ
-decimalIn zero v = []
-decimalIn (suc k) v = if ltb v 10 then digitOf v ∷ [] else decimalIn k (v / 10) ++ (digitOf (v % 10) ∷ [])
+-- how many decimal digits v has: one, or one more than v / 10 has; counted up to k and one
+abbrev pub placesIn : ℕ → ℕ → ℕ
+placesIn zero v = 1
+placesIn (suc k) v = if ltb v 10 then 1 else suc (placesIn k (v / 10))
 
 -- a number of 64 bits has at most 20
 unfoldable pub decimal : ℕ → List ℕ
-decimal v = decimalIn 20 v
+decimal v = digits 10 (placesIn 19 v) v
 
--- two digits, of a byte
+-- 0 to 9, and A to F; two of them, of a byte
+abbrev pub digitOf : ℕ → ℕ
+digitOf d = if ltb d 10 then 48 + d else 55 + d
+
 unfoldable pub hexadecimal : ℕ → List ℕ
 hexadecimal b = digitOf (b / 16) ∷ digitOf (b % 16) ∷ []
 

@@ -206,8 +206,8 @@ mod tests {
     }
 
     /// What is timed is what it is meant to be: walks that no refusal stops, captures
-    /// that are explained, causes that send them, and lines and lists with as many changes as
-    /// their rows say.
+    /// that are explained, causes that send them, lines and lists with as many changes as
+    /// their rows say, and books with as many steps.
     #[test]
     fn the_work_is_not_refused() {
         steps::check(&Peer);

@@ -6,6 +6,7 @@ pub mod changes;
 mod commands;
 pub mod damage;
 pub mod lockout;
+pub mod longest;
 pub mod pairs;
 pub mod repeats;
 pub mod runs;
@@ -23,6 +24,7 @@ pub const COMPARISON: Comparison = Comparison {
     groups: &GROUPS,
     read: |book| Reading::of(Table::of(book), kind),
     hold: by_bytes,
+    in_library: true,
     lines: "captures",
     // By the order.
     least: (20_000, "are asked for"),
@@ -30,6 +32,7 @@ pub const COMPARISON: Comparison = Comparison {
         ("  captures", |counts| counts.lines),
         ("  explained", |counts| counts.of(Kind::Explained)),
         ("  unexplained", |counts| counts.of(Kind::Unexplained)),
+        ("  books by library", |counts| counts.by_library),
     ],
     tell: |entry| format!(" n {}, mask {}, W {}", entry.n, entry.mask, entry.w),
 };

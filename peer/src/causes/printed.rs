@@ -14,6 +14,7 @@ pub const COMPARISON: Comparison = Comparison {
     groups: &books::GROUPS,
     read: |book| Reading::of(Table::of(book), |lines| kind(lines)),
     hold: by_replay,
+    in_library: false,
     lines: "lines",
     // The steps of the long runs alone come to a quarter of these.
     least: (250_000, "are due"),

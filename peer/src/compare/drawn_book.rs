@@ -31,13 +31,19 @@ pub fn draw(bits: &mut Bits) -> (Vec<u8>, bool) {
     } = draw_sound(bits);
     let mut book = vec![0; contents_bytes(contents[0].into()) + bodies.len()];
     Peer.write(&contents, &bodies, &mut book, &mut [0; SIZE]);
+    let damaged = damage_often(bits, &mut book);
+    (book, damaged)
+}
+
+/// Answers whether something was done.
+pub fn damage_often(bits: &mut Bits, book: &mut Vec<u8>) -> bool {
     let damaged = bits.below(8) < 5;
     if damaged {
         for _ in 0..=bits.below(3) {
-            damage(bits, &mut book);
+            damage(bits, book);
         }
     }
-    (book, damaged)
+    damaged
 }
 
 fn damage(bits: &mut Bits, book: &mut Vec<u8>) {

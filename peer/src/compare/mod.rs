@@ -11,11 +11,12 @@ mod crew;
 mod drawn_book;
 mod faults;
 mod handed;
-mod lent;
+pub mod lent;
 mod report;
 mod spoilt;
 mod steps;
 mod switches;
+mod tables;
 mod tally;
 mod values;
 
@@ -53,7 +54,7 @@ const fn once<const N: usize>(names: [&'static str; N]) -> [Due; N] {
     due
 }
 
-const SUBJECTS: [Subject; 18] = [
+const SUBJECTS: [Subject; 20] = [
     Subject {
         name: "fresh",
         least: 1 << 24,
@@ -198,6 +199,22 @@ const SUBJECTS: [Subject; 18] = [
         parts: books::PARTS,
         compare: books::writings,
     },
+    Subject {
+        name: "table, drawn",
+        least: 20_000,
+        refusals: &[0, 20, 21, 22, 23, 24, 25, 26, 27, 28, 31, 32],
+        kinds: &tables::DRAWN_KINDS,
+        parts: tables::DRAWN_PARTS,
+        compare: tables::drawn,
+    },
+    Subject {
+        name: "table, every number of steps",
+        least: 2 * 16_381,
+        refusals: &[0],
+        kinds: &tables::NUMBER_KINDS,
+        parts: tables::NUMBER_PARTS,
+        compare: tables::numbers,
+    },
 ];
 
 /// What the comparison found.
@@ -224,4 +241,4 @@ pub fn compare(library: &dyn Door) -> io::Result<Finding> {
 }
 
 #[cfg(test)]
-mod tests;
+pub mod tests;

@@ -2,20 +2,22 @@ mod books;
 mod causes;
 mod repeats;
 mod switches;
+pub mod tables;
 
 use super::*;
 use crate::book::STEP_BYTES;
 use crate::books::pairs::unheard;
 use crate::door::{
-    Peer, Tables, CHANGE, CHANGES, CONTENTS, DECODED, ENCODED, K1, RECORD, SIZE, STEP, VERDICT,
+    Peer, Tables, CHANGE, CHANGES, CONTENTS, DECODED, ENCODED, K1, PAGE, RECORD, SIZE, STEP,
+    VERDICT,
 };
 use std::io::Write;
 
 /// This reading in the place of the library, with one function that is wrong, with no
-/// notion of alarms, or with another way with repeated rows, with books, with lists or with
-/// causes.
-struct Fake {
-    wrong: &'static str,
+/// notion of alarms, or with another way with repeated rows, with books, with lists, with
+/// causes or with tables.
+pub struct Fake {
+    pub wrong: &'static str,
 }
 
 /// A library that is as it was before 02, c.
@@ -154,6 +156,12 @@ impl Door for Fake {
         self.spoil("write", out);
         refusal
     }
+
+    fn table(&self, book: &[u8], out: &mut [u8; PAGE]) -> usize {
+        let length = tables::print(self.wrong, book, out);
+        self.spoil("table", out);
+        length
+    }
 }
 
 /// The subject that is named so first.
@@ -219,6 +227,7 @@ fn a_wrong_byte_of_each_function_is_noticed() {
         "last change",
         "read",
         "write",
+        "table",
     ] {
         let tally = part_of(name, &Fake { wrong: name });
         assert!(tally.differences > 0 && !tally.told.is_empty(), "{name}");
@@ -264,7 +273,14 @@ fn values_and_decoder_are_held_against_each_other() {
 }
 
 /// The subjects in which pairs are received.
-const RECEIVING: [&str; 5] = ["decode", "step, drawn", "step, walks", "judge", "causes"];
+const RECEIVING: [&str; 6] = [
+    "decode",
+    "step, drawn",
+    "step, walks",
+    "judge",
+    "causes",
+    "table",
+];
 
 #[test]
 fn a_library_that_hears_no_alarms_is_noticed() {
@@ -378,4 +394,5 @@ fn as_many_calls_are_due_as_the_order_asks_for() {
     assert_eq!(subject("causes, drawn").kinds[0], ("explained", 100_000));
     assert!(due("switches") >= 600_000 && due("last change") >= 400_000);
     assert!(due("read") >= 100_000 && due("write") >= 100_000);
+    assert!(due("table") >= 50_000);
 }

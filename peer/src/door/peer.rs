@@ -2,14 +2,17 @@
 //! call it costs a call, as it does to call the library.
 
 use super::{
-    Door, Tables, CHANGE, CHANGES, CONTENTS, DECODED, ENCODED, K1, RECORD, SIZE, STEP, VERDICT,
+    Door, Tables, CHANGE, CHANGES, CONTENTS, DECODED, ENCODED, K1, PAGE, RECORD, SIZE, STEP,
+    VERDICT,
 };
 use crate::book::{self, Contents, Entry, ENTRY_BYTES};
 use crate::causes::fill::fill;
 use crate::controller::{self, Answer, Record};
+use crate::judge::table::Table;
 use crate::judge::{scan, Verdict};
 use crate::pair::{self, values, Received};
 use crate::switches;
+use std::io::Write;
 
 pub struct Peer;
 
@@ -163,6 +166,14 @@ impl Door for Peer {
         };
         *size = (length as u32).to_be_bytes();
         refusal
+    }
+
+    #[inline(never)]
+    fn table(&self, book: &[u8], out: &mut [u8; PAGE]) -> usize {
+        let mut behind = &mut out[..];
+        let written = write!(behind, "{}", Table::scanned(book));
+        written.expect("a page has room for every text");
+        PAGE - behind.len()
     }
 }
 

@@ -1,4 +1,5 @@
 use super::*;
+use crate::books::longest;
 use crate::trials::PAPER_BOOK;
 
 /// A fill that no answer has in every byte.
@@ -283,4 +284,41 @@ fn a_book_is_written_from_its_contents() {
         29
     );
     assert_eq!((short, size), ([FILL; 45], [0; SIZE]));
+}
+
+/// The text at the start of the page, and nothing else, whatever is read.
+#[test]
+fn a_table_is_text_on_a_page() {
+    let paper = "\
+capture sections steps verdict at
+0 2 3 explained 3
+1 2 2 unexplained 1
+";
+    let mut unfit = PAPER_BOOK;
+    unfit[14] = 0;
+    for (book, text) in [
+        (&PAPER_BOOK[..], paper),
+        (&[1, 0], "capture sections steps verdict at\n"),
+        (&PAPER_BOOK[..45], "refused 27\n"),
+        (&unfit, "refused 31\n"),
+        (&[1], "refused 21\n"),
+        (&[], "refused 21\n"),
+        (&[0; 65_536], "refused 22\n"),
+        (&[0; 65_537], "refused 20\n"),
+    ] {
+        let mut page = [FILL; PAGE];
+        assert_eq!(Peer.table(book, &mut page), text.len());
+        let (written, behind) = page.split_at(text.len());
+        assert_eq!(written, text.as_bytes());
+        assert!(behind.iter().all(|&byte| byte == FILL), "{text}");
+    }
+}
+
+/// As the header has it.
+#[test]
+fn the_longest_table_has_1708_characters() {
+    let mut page = [FILL; PAGE];
+    assert_eq!(Peer.table(&longest::book(), &mut page), 1_708);
+    assert_eq!(page[1_704..1_708], *b"000\n");
+    assert_eq!(page[1_708..], [FILL; PAGE - 1_708]);
 }

@@ -1,12 +1,22 @@
 //! The table of the program `judge` (paper: end of "Sequences on both sides").
 
-use super::{judge, Verdict};
+use super::{judge, scan, Verdict};
 use crate::book::{self, Entry};
 use crate::table::{self, Captured};
 use std::fmt::{self, Display, Formatter};
 use std::slice;
 
 pub type Table = table::Table<Line>;
+
+impl Table {
+    /// By the judge of one scan, where `of` has the one by brute force.
+    pub fn scanned(book: &[u8]) -> Self {
+        Self::by(book, |book, entry| Line::by(scan::judge, book, entry))
+    }
+}
+
+/// Of n, mask, W and the capture.
+type Judge = fn(u8, u16, u16, &[u8]) -> Result<Verdict, u8>;
 
 /// What is printed of one capture, besides its number. The paper has words for one
 /// that the judge refuses, but no book that is read comes by them any more: its
@@ -17,12 +27,8 @@ pub struct Line {
     pub verdict: Verdict,
 }
 
-impl Captured for Line {
-    const HEADER: &'static str = "capture sections steps verdict at";
-
-    type Line = Self;
-
-    fn of(book: &[u8], entry: &Entry) -> Self {
+impl Line {
+    fn by(judge: Judge, book: &[u8], entry: &Entry) -> Self {
         let Entry {
             n, mask, w, steps, ..
         } = *entry;
@@ -32,6 +38,16 @@ impl Captured for Line {
             steps,
             verdict: judged.expect("a capture that was read is not refused"),
         }
+    }
+}
+
+impl Captured for Line {
+    const HEADER: &'static str = "capture sections steps verdict at";
+
+    type Line = Self;
+
+    fn of(book: &[u8], entry: &Entry) -> Self {
+        Self::by(judge, book, entry)
     }
 
     fn lines(&self) -> &[Self] {
@@ -54,10 +70,13 @@ mod tests {
     use super::*;
     use crate::trials::PAPER_BOOK;
 
+    /// By either judge.
     fn printed(book: &[u8]) -> String {
         let mut out = Vec::new();
         Table::print(book, &mut out).unwrap();
-        String::from_utf8(out).unwrap()
+        let text = String::from_utf8(out).unwrap();
+        assert_eq!(Table::scanned(book).to_string(), text);
+        text
     }
 
     #[test]

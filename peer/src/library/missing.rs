@@ -2,7 +2,8 @@
 //! value of this type, so nothing here is ever called.
 
 use crate::door::{
-    Door, Tables, CHANGE, CHANGES, CONTENTS, DECODED, ENCODED, K1, RECORD, SIZE, STEP, VERDICT,
+    Door, Tables, CHANGE, CHANGES, CONTENTS, DECODED, ENCODED, K1, PAGE, RECORD, SIZE, STEP,
+    VERDICT,
 };
 
 pub enum Library {}
@@ -53,6 +54,10 @@ impl Door for Library {
     }
 
     fn write(&self, _: &[u8; CONTENTS], _: &[u8], _: &mut [u8], _: &mut [u8; SIZE]) -> u8 {
+        match *self {}
+    }
+
+    fn table(&self, _: &[u8], _: &mut [u8; PAGE]) -> usize {
         match *self {}
     }
 }

@@ -14,6 +14,7 @@ pub const COMPARISON: Comparison = Comparison {
     groups: &GROUPS,
     read: |book| Reading::of(Table::of(book), |changes| kind(changes)),
     hold: by_bytes,
+    in_library: false,
     lines: "changes",
     // A change from each K1 to each other alone comes to more than half of these.
     least: (100_000, "are due"),

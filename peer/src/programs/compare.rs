@@ -1,11 +1,10 @@
-//! One book, put to both programs.
+//! One book, put to both programs, and to the library.
 
-use super::{process, Comparison, Reading, Shown};
+use super::{page, process, Comparison, Others, Reading, Shown};
 use std::io;
-use std::path::Path;
 use std::process::Output;
 
-/// Something in which the programs do not agree.
+/// Something in which another does not agree with this reading.
 #[derive(Debug, PartialEq, Eq)]
 pub struct Difference {
     /// The line below the header that is not the same, if it is one.
@@ -18,16 +17,24 @@ pub struct Difference {
 pub struct Compared {
     /// By this reading.
     pub shown: Vec<Shown>,
-    pub differences: Vec<Difference>,
+    /// In what the program prints.
+    pub program: Vec<Difference>,
+    /// In what the library makes of the book, if it was put to it.
+    pub library: Option<Vec<Difference>>,
 }
 
-pub fn compare(program: &Path, comparison: &Comparison, book: &[u8]) -> io::Result<Compared> {
+pub fn compare(others: Others, comparison: &Comparison, book: &[u8]) -> io::Result<Compared> {
     let Reading { text, shown } = (comparison.read)(book);
-    let output = process::run(program, book)?;
+    let output = process::run(others.program, book)?;
     let lines = Lines::of(text.as_bytes(), &output.stdout);
-    let mut differences = (comparison.hold)(book, lines);
-    differences.extend(other_differences(&output));
-    Ok(Compared { shown, differences })
+    let mut program = (comparison.hold)(book, lines);
+    program.extend(other_differences(&output));
+    let library = others.library.filter(|_| comparison.in_library);
+    Ok(Compared {
+        shown,
+        program,
+        library: library.map(|library| page::differences(library, book, &text)),
+    })
 }
 
 /// The table is all that is printed. The paper is silent on the exit status: here
@@ -108,9 +115,12 @@ mod tests {
     use super::super::Kind;
     use super::*;
     use crate::causes::printed;
+    use crate::compare::tests::{tables, Fake};
+    use crate::door::{Door, Peer};
     use crate::trials::PAPER_BOOK;
     use crate::{books, lists};
     use std::os::unix::process::ExitStatusExt;
+    use std::path::Path;
     use std::process::ExitStatus;
 
     const TABLE: &str = "capture sections steps verdict at\n0 2 3 explained 3\n";
@@ -168,10 +178,18 @@ mod tests {
         assert_eq!(other_differences(&output(9, TABLE, "late")).len(), 2);
     }
 
+    fn others<'a>(program: &'a str, library: Option<&'a dyn Door>) -> Others<'a> {
+        Others {
+            program: Path::new(program),
+            library,
+        }
+    }
+
     fn with_nothing(comparison: &Comparison, book: &[u8]) -> (Vec<(Kind, usize)>, usize) {
-        let compared = compare(Path::new("/bin/true"), comparison, book).unwrap();
+        let compared = compare(others("/bin/true", None), comparison, book).unwrap();
         let shown = compared.shown.iter().map(|shown| (shown.kind, shown.lines));
-        (shown.collect(), compared.differences.len())
+        assert_eq!(compared.library, None);
+        (shown.collect(), compared.program.len())
     }
 
     /// There are the header, the lines and the end to miss.
@@ -188,7 +206,28 @@ mod tests {
             let refused = vec![(Kind::RefusedBook, 0)];
             assert_eq!(with_nothing(comparison, &PAPER_BOOK), (shown, differences));
             assert_eq!(with_nothing(comparison, &[]), (refused, 2));
-            assert!(compare(Path::new("no/such/program"), comparison, &[]).is_err());
+            assert!(compare(others("no/such/program", None), comparison, &[]).is_err());
+        }
+    }
+
+    /// How many differences each of them has, from those in the paper's book.
+    fn with_library(comparison: &Comparison, library: &dyn Door) -> (usize, Option<usize>) {
+        let others = others("/bin/true", Some(library));
+        let compared = compare(others, comparison, &PAPER_BOOK).unwrap();
+        let by_library = compared.library.map(|found| found.len());
+        (compared.program.len(), by_library)
+    }
+
+    #[test]
+    fn program_and_library_are_told_apart() {
+        let wrong = tables::NOTHING;
+        for (comparison, right, nothing) in [
+            (&books::COMPARISON, (4, Some(0)), (4, Some(4))),
+            (&lists::COMPARISON, (5, None), (5, None)),
+            (&printed::COMPARISON, (6, None), (6, None)),
+        ] {
+            assert_eq!(with_library(comparison, &Peer), right);
+            assert_eq!(with_library(comparison, &Fake { wrong }), nothing);
         }
     }
 }

@@ -2,10 +2,9 @@
 
 use super::compare::{compare, Compared};
 use super::report::Report;
-use super::{Comparison, Job};
+use super::{Comparison, Job, Others};
 use std::io::{self, Write};
 use std::num::NonZero;
-use std::path::Path;
 use std::sync::atomic::{AtomicUsize, Ordering};
 use std::sync::mpsc::{self, Receiver, Sender};
 use std::thread;
@@ -19,7 +18,7 @@ type Done = (usize, io::Result<Compared>);
 /// Ends with the first error, which is one of running the program. How far it
 /// has come is told to `progress`.
 pub fn compare_all(
-    program: &Path,
+    others: Others,
     comparison: &Comparison,
     jobs: &[Job],
     report: &mut Report,
@@ -30,7 +29,7 @@ pub fn compare_all(
     thread::scope(|scope| {
         for _ in 0..thread::available_parallelism().map_or(1, NonZero::get) {
             let (next, sender) = (&next, sender.clone());
-            scope.spawn(move || work(program, comparison, jobs, next, &sender));
+            scope.spawn(move || work(others, comparison, jobs, next, &sender));
         }
         // The channel ends when the last worker does.
         drop(sender);
@@ -40,7 +39,7 @@ pub fn compare_all(
 
 /// Takes jobs until there are none left, or nobody wants to know.
 fn work(
-    program: &Path,
+    others: Others,
     comparison: &Comparison,
     jobs: &[Job],
     next: &AtomicUsize,
@@ -51,7 +50,7 @@ fn work(
         let Some(job) = jobs.get(number) else {
             return;
         };
-        let compared = compare(program, comparison, &job.book);
+        let compared = compare(others, comparison, &job.book);
         if sender.send((number, compared)).is_err() {
             return;
         }
@@ -82,36 +81,49 @@ mod tests {
     use super::super::group;
     use super::*;
     use crate::books::COMPARISON;
+    use crate::compare::tests::{tables, Fake};
+    use crate::door::{Door, Peer};
     use crate::trials::PAPER_BOOK;
+    use std::path::Path;
 
     const PAPER: Comparison = Comparison {
         groups: &[group("paper", &[], Vec::new)],
         ..COMPARISON
     };
 
-    /// Twenty times the same book, put to that program. The answer is the last that is
-    /// told of the progress.
-    fn compared(program: &str) -> io::Result<String> {
+    /// Twenty times the same book, put to those two. The answer is the last that is told of
+    /// the progress.
+    fn compared(program: &str, library: &dyn Door) -> io::Result<String> {
         let job = |_| Job {
             group: 0,
             book: PAPER_BOOK.to_vec(),
         };
         let jobs: Vec<Job> = (0..20).map(job).collect();
-        let mut report = Report::new(&PAPER, &jobs);
+        let mut report = Report::new(&PAPER, true, &jobs);
         let mut progress = Vec::new();
-        let program = Path::new(program);
-        compare_all(program, &PAPER, &jobs, &mut report, &mut progress)?;
+        let others = Others {
+            program: Path::new(program),
+            library: Some(library),
+        };
+        compare_all(others, &PAPER, &jobs, &mut report, &mut progress)?;
         Ok(String::from_utf8_lossy(&progress).into_owned())
     }
 
     #[test]
     fn every_book_is_compared_once() {
-        let progress = compared("/bin/true").unwrap();
+        let progress = compared("/bin/true", &Peer).unwrap();
         assert!(progress.ends_with("\r20 of 20 books, 40 captures, 80 differences\n"));
     }
 
     #[test]
+    fn every_book_is_put_to_the_library_too() {
+        let wrong = tables::NOTHING;
+        let progress = compared("/bin/true", &Fake { wrong }).unwrap();
+        assert!(progress.ends_with("\r20 of 20 books, 40 captures, 160 differences\n"));
+    }
+
+    #[test]
     fn a_program_that_cannot_be_run_ends_it() {
-        assert!(compared("no/such/program").is_err());
+        assert!(compared("no/such/program", &Peer).is_err());
     }
 }

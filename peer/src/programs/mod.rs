@@ -1,13 +1,16 @@
 //! The comparisons of `peer books`, `peer lists` and `peer causes`: books are made,
 //! another program is run on each of them, and what it prints is held against the table
-//! that this reading prints, byte for byte where there is one answer.
+//! that this reading prints, byte for byte where there is one answer. Where the library
+//! makes that table too, each book is also put to the library.
 
 mod compare;
 mod crew;
+mod page;
 mod process;
 mod report;
 
 use crate::book::Entry;
+use crate::door::Door;
 use crate::table::{Captured, Table};
 pub use compare::{by_bytes, Difference, Lines};
 use report::{Column, Report};
@@ -26,6 +29,8 @@ pub struct Comparison {
     pub read: fn(&[u8]) -> Reading,
     /// How the lines of a book that this reading has differ from those that are printed.
     pub hold: fn(&[u8], Lines) -> Vec<Difference>,
+    /// Whether it is the table that `Door::table` makes.
+    pub in_library: bool,
     /// What a line of its tables is about.
     pub lines: &'static str,
     /// How many lines have to come up, and the words for that.
@@ -34,6 +39,14 @@ pub struct Comparison {
     pub columns: &'static [Column],
     /// What is told of a capture that differs, behind its number.
     pub tell: fn(&Entry) -> String,
+}
+
+/// Who is compared with this reading.
+#[derive(Clone, Copy)]
+pub struct Others<'a> {
+    pub program: &'a Path,
+    /// If this package was built with it.
+    pub library: Option<&'a dyn Door>,
 }
 
 /// Books of one sort.
@@ -135,13 +148,13 @@ pub struct Finding {
 }
 
 impl Comparison {
-    /// Compares this reading with a program. The error is that of running it.
-    pub fn compare(&self, program: &Path) -> io::Result<Finding> {
+    /// Compares this reading with the others. The error is that of running the program.
+    pub fn compare(&self, others: Others) -> io::Result<Finding> {
         // A program that cannot be run shows here, before any book is made.
-        process::run(program, &[])?;
+        process::run(others.program, &[])?;
         let jobs = self.jobs();
-        let mut report = Report::new(self, &jobs);
-        crew::compare_all(program, self, &jobs, &mut report, &mut io::stderr())?;
+        let mut report = Report::new(self, others.library.is_some(), &jobs);
+        crew::compare_all(others, self, &jobs, &mut report, &mut io::stderr())?;
         let mut text = Vec::new();
         report.write(&mut text)?;
         Ok(Finding {
@@ -171,11 +184,12 @@ mod tests {
     #[test]
     fn the_groups_show_what_they_are_for() {
         let jobs = lists::COMPARISON.jobs();
-        let mut report = Report::new(&lists::COMPARISON, &jobs);
+        let mut report = Report::new(&lists::COMPARISON, true, &jobs);
         for (number, Job { book, .. }) in jobs.iter().enumerate() {
             let compared = Compared {
                 shown: (lists::COMPARISON.read)(book).shown,
-                differences: Vec::new(),
+                program: Vec::new(),
+                library: None,
             };
             report.add(number, compared);
         }

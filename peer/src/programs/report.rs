@@ -10,6 +10,8 @@ const MOST_SHOWN: usize = 5;
 /// A capture of more rows, or a book of more lines of them, is shown in part.
 const MOST_ROWS: usize = 300;
 
+const WITHOUT_LIBRARY: &str = "no book by the library: this package was built without it";
+
 /// A column: its head, which is as wide as all of it, and the number in it.
 pub type Column = (&'static str, fn(&Counts) -> usize);
 
@@ -20,13 +22,16 @@ const REFUSED_BOOKS: Column = ("  refused books", |counts| counts.of(Kind::Refus
 #[derive(Clone, Copy, Default)]
 pub struct Counts {
     books: usize,
+    /// Those that were put to the library too.
+    pub by_library: usize,
     pub lines: usize,
     kinds: [usize; Kind::ALL.len()],
 }
 
 impl Counts {
-    fn add(&mut self, shown: &[Shown]) {
+    fn add(&mut self, shown: &[Shown], by_library: bool) {
         self.books += 1;
+        self.by_library += usize::from(by_library);
         for &Shown { kind, lines } in shown {
             self.lines += lines;
             self.kinds[kind as usize] += 1;
@@ -37,6 +42,7 @@ impl Counts {
         let mut sum = Self::default();
         for counts in all {
             sum.books += counts.books;
+            sum.by_library += counts.by_library;
             sum.lines += counts.lines;
             for (total, number) in sum.kinds.iter_mut().zip(counts.kinds) {
                 *total += number;
@@ -59,17 +65,20 @@ impl Counts {
 
 pub struct Report<'a> {
     comparison: &'a Comparison,
+    /// The library is there to be compared.
+    linked: bool,
     jobs: &'a [Job],
     /// By the groups.
     counts: Vec<Counts>,
-    /// With the number of the job.
-    differences: Vec<(usize, Difference)>,
+    /// With the number of the job, and who differs.
+    differences: Vec<(usize, &'static str, Difference)>,
 }
 
 impl<'a> Report<'a> {
-    pub fn new(comparison: &'a Comparison, jobs: &'a [Job]) -> Self {
+    pub fn new(comparison: &'a Comparison, linked: bool, jobs: &'a [Job]) -> Self {
         Self {
             comparison,
+            linked,
             jobs,
             counts: vec![Counts::default(); comparison.groups.len()],
             differences: Vec::new(),
@@ -78,9 +87,17 @@ impl<'a> Report<'a> {
 
     /// In whatever order the jobs are finished.
     pub fn add(&mut self, job: usize, compared: Compared) {
-        self.counts[self.jobs[job].group].add(&compared.shown);
-        let numbered = compared.differences.into_iter().map(|found| (job, found));
-        self.differences.extend(numbered);
+        let Compared {
+            shown,
+            program,
+            library,
+        } = compared;
+        self.counts[self.jobs[job].group].add(&shown, library.is_some());
+        let library = library.unwrap_or_default();
+        for (who, found) in [("program", program), ("library", library)] {
+            let told = found.into_iter().map(|difference| (job, who, difference));
+            self.differences.extend(told);
+        }
     }
 
     /// What there is to say while it is not finished.
@@ -98,9 +115,9 @@ impl<'a> Report<'a> {
     /// The counts come last, where they are seen.
     pub fn write(&mut self, out: &mut impl Write) -> io::Result<()> {
         // Stable, so those of one book keep their order.
-        self.differences.sort_by_key(|&(job, _)| job);
-        for (job, difference) in self.differences.iter().take(MOST_SHOWN) {
-            self.write_difference(out, *job, difference)?;
+        self.differences.sort_by_key(|&(job, ..)| job);
+        for (job, who, difference) in self.differences.iter().take(MOST_SHOWN) {
+            self.write_difference(out, *job, who, difference)?;
         }
         self.write_line(out, "group", |(head, _)| head.into())?;
         for (group, counts) in self.groups_with_counts() {
@@ -108,6 +125,9 @@ impl<'a> Report<'a> {
         }
         let sum = Counts::sum(&self.counts);
         self.write_line(out, "total", |(_, number)| number(&sum).to_string())?;
+        if self.comparison.in_library && !self.linked {
+            writeln!(out, "{WITHOUT_LIBRARY}")?;
+        }
         for shortcoming in self.shortcomings() {
             writeln!(out, "{shortcoming}")?;
         }
@@ -138,7 +158,15 @@ impl<'a> Report<'a> {
     /// whenever it is made.
     fn shortcomings(&self) -> Vec<String> {
         let mut found = Vec::new();
-        let Counts { lines, .. } = Counts::sum(&self.counts);
+        let Counts {
+            books,
+            by_library,
+            lines,
+            ..
+        } = Counts::sum(&self.counts);
+        if self.comparison.in_library && self.linked && by_library < books {
+            found.push(format!("{by_library} books by the library, {books} are due"));
+        }
         let (what, (least, due)) = (self.comparison.lines, self.comparison.least);
         if lines < least {
             found.push(format!("{lines} {what}, {least} {due}"));
@@ -155,6 +183,7 @@ impl<'a> Report<'a> {
         &self,
         out: &mut impl Write,
         job: usize,
+        who: &str,
         difference: &Difference,
     ) -> io::Result<()> {
         let Job { group, book } = &self.jobs[job];
@@ -177,7 +206,7 @@ impl<'a> Report<'a> {
             }
         }
         writeln!(out, "  peer:    {}", difference.ours)?;
-        writeln!(out, "  program: {}", difference.theirs)
+        writeln!(out, "  {who}: {}", difference.theirs)
     }
 }
 
@@ -250,28 +279,46 @@ mod tests {
         String::from_utf8(out).unwrap()
     }
 
-    /// Of both books, the second first, with a difference in these lines. With what is
-    /// told of the progress at the end.
-    fn reported(comparison: &Comparison, rows: [usize; 2]) -> String {
+    fn in_line(row: usize) -> Vec<Difference> {
+        vec![Difference {
+            row: Some(row),
+            ours: "this".into(),
+            theirs: "that".into(),
+        }]
+    }
+
+    /// Of both books, the second first, with a difference in these lines: of the program,
+    /// and in the second book of the library where that takes part. With what is told of
+    /// the progress at the end.
+    fn reported(comparison: &Comparison, [first, second]: [usize; 2]) -> String {
         let jobs = jobs();
-        let mut report = Report::new(comparison, &jobs);
-        for (job, row) in rows.into_iter().enumerate().rev() {
+        let mut report = Report::new(comparison, true, &jobs);
+        let [first, second] = [first, second].map(in_line);
+        let (by_program, by_library) = if comparison.in_library {
+            (Vec::new(), Some(second))
+        } else {
+            (second, None)
+        };
+        for (job, program, library) in [
+            (1, by_program, by_library),
+            (0, first, comparison.in_library.then(Vec::new)),
+        ] {
             let shown = (comparison.read)(&jobs[job].book).shown;
-            let differences = vec![Difference {
-                row: Some(row),
-                ours: "this".into(),
-                theirs: "that".into(),
-            }];
-            report.add(job, Compared { shown, differences });
+            let compared = Compared {
+                shown,
+                program,
+                library,
+            };
+            report.add(job, compared);
         }
         assert!(!report.is_clean());
         written(&mut report) + &report.progress()
     }
 
     const JUDGED_COUNTS: &str = "\
-group       books  captures  explained  unexplained  refused books
-paper           2         2          1            1              1
-total           2         2          1            1              1
+group       books  captures  explained  unexplained  books by library  refused books
+paper           2         2          1            1                 2              1
+total           2         2          1            1                 2              1
 2 captures, 20000 are asked for
 paper shows [Explained, Unexplained, RefusedBook], not [Explained, Unexplained]
 2 differences
@@ -295,10 +342,11 @@ paper shows [Explained, Unexplained, RefusedBook], not [Explained, Unexplained]
     /// In the line of the second capture, and in a line of a book that has none.
     #[test]
     fn differences_are_shown_in_full_and_in_order() {
-        for (comparison, row, told, counts) in [
-            (&JUDGED, 1, " n 2, mask 0, W 3", JUDGED_COUNTS),
-            (&LISTED, 2, "", LISTED_COUNTS),
-            (&CAUSED, 3, " n 2, mask 0, W 3", CAUSED_COUNTS),
+        let settings = " n 2, mask 0, W 3";
+        for (comparison, row, told, second, counts) in [
+            (&JUDGED, 1, settings, "library", JUDGED_COUNTS),
+            (&LISTED, 2, "", "program", LISTED_COUNTS),
+            (&CAUSED, 3, settings, "program", CAUSED_COUNTS),
         ] {
             let expected = format!(
                 "\
@@ -310,7 +358,7 @@ paper, book 0, capture 1:{told}
 paper, book 1 of 3 bytes:
   01 01 01
   peer:    this
-  program: that
+  {second}: that
 {counts}"
             );
             assert_eq!(reported(comparison, [row, 0]), expected);
@@ -327,12 +375,22 @@ paper, book 1 of 3 bytes:
 
     /// Each kind once, with so many lines.
     fn come_by(comparison: &Comparison, kinds: &[Kind], lines: usize) -> (bool, String) {
-        let jobs = jobs();
-        let mut report = Report::new(comparison, &jobs);
         let shown = kinds.iter().map(|&kind| Shown { kind, lines });
+        one_book(comparison, [true; 2], shown.collect())
+    }
+
+    /// Whether the library is linked, and whether the book is put to it if it has to be.
+    fn one_book(
+        comparison: &Comparison,
+        [linked, called]: [bool; 2],
+        shown: Vec<Shown>,
+    ) -> (bool, String) {
+        let jobs = jobs();
+        let mut report = Report::new(comparison, linked, &jobs);
         let compared = Compared {
-            shown: shown.collect(),
-            differences: Vec::new(),
+            shown,
+            program: Vec::new(),
+            library: (comparison.in_library && called).then(Vec::new),
         };
         report.add(0, compared);
         (report.is_clean(), written(&mut report))
@@ -357,6 +415,28 @@ paper, book 1 of 3 bytes:
         }
         let (_, text) = come_by(&JUDGED, &[Kind::Explained], 10_000);
         assert!(text.contains("10000 captures, 20000 are asked for"));
+    }
+
+    const NOT_CALLED: &str = "\n0 books by the library, 1 are due\n";
+
+    #[test]
+    fn every_book_is_due_by_the_library_if_it_is_linked() {
+        for (comparison, library, expected, told) in [
+            (JUDGED, [true, true], true, [false, false]),
+            (JUDGED, [true, false], false, [true, false]),
+            (JUDGED, [false, false], true, [false, true]),
+            (LISTED, [true, false], true, [false, false]),
+            (LISTED, [false, false], true, [false, false]),
+            (CAUSED, [true, false], true, [false, false]),
+            (CAUSED, [false, false], true, [false, false]),
+        ] {
+            let (lines, _) = comparison.least;
+            let shown = comparison.groups[0].shows.iter();
+            let shown = shown.map(|&kind| Shown { kind, lines }).collect();
+            let (clean, text) = one_book(&comparison, library, shown);
+            assert_eq!(clean, expected, "{text}");
+            assert_eq!([NOT_CALLED, WITHOUT_LIBRARY].map(|line| text.contains(line)), told);
+        }
     }
 
     #[test]

@@ -11,13 +11,19 @@ pub const SETTINGS_FIRST: &str = "settings come before the rest of the contents"
 pub const SETTINGS_LAST: &str = "settings come behind all else";
 pub const CUT_TAKEN: &str = "books that are cut in their contents are taken";
 
-pub fn read(wrong: &str, book: &[u8], out: &mut [u8; CONTENTS]) -> u8 {
+/// The book with settings that fit, and the refusal of the first that did not.
+pub fn mended(book: &[u8]) -> (Vec<u8>, Option<u8>) {
     let entries = match book {
         [_, count, ..] => 2..book.len().min(contents_bytes(usize::from(*count))),
         _ => 0..0,
     };
     let mut mended = book.to_vec();
     let unfit = mend(&mut mended[entries]);
+    (mended, unfit)
+}
+
+pub fn read(wrong: &str, book: &[u8], out: &mut [u8; CONTENTS]) -> u8 {
+    let (mended, unfit) = mended(book);
     let rest = Peer.read(&mended, out);
     match (wrong, unfit) {
         (NO_SETTINGS, _) => rest,
