@@ -267,7 +267,7 @@ read-again book out small none room =
 
 -- the book of some entries and bodies has these entries, placed, and these bodies
 module _ (entries : List Entry) (bodies : List ℕ) where
-  made-entries : entriesOf (bookOf entries bodies) ≡ placed (firstBody (length entries)) entries
+  pub made-entries : entriesOf (bookOf entries bodies) ≡ placed (firstBody (length entries)) entries
   unfolding bookOf
   made-entries =
       let ps = placed (firstBody (length entries)) entries in
@@ -290,7 +290,7 @@ module _ (entries : List Entry) (bodies : List ℕ) where
         (order-placed (length (bookOf entries bodies)) (firstBody (length entries)) entries
         (omega (arith, length-book entries bodies)))
 
-    made-book : IsBook (bookOf entries bodies)
+    pub made-book : IsBook (bookOf entries bodies)
     unfolding bookOf
     made-book =
         record {

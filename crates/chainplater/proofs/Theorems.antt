@@ -15,7 +15,7 @@ use Rattle.controller.specs.Step.{step}
 use Rattle.controller.specs.declared.Controller.{Controller}
 use Rattle.controller.specs.declared.Outcome.{Outcome}
 use Rattle.explain.specs.Causes.{Causes}
-use Rattle.explain.specs.Verdict.{Judging, Right}
+use Rattle.explain.specs.Verdict.{Judging}
 use Rattle.switches.specs.Extend.{extending}
 use Rattle.switches.specs.LastChange.{Looked}
 use Rattle.book.specs.Format.{contentsIn, bytesOf, bodyOf, noEntry}
@@ -23,6 +23,7 @@ use Rattle.book.specs.Reader.{reading}
 use Rattle.book.specs.Writer.{counted, writing, output}
 use Rattle.book.proofs.Laid.{length-listed}
 use Rattle.book.proofs.Trips.{contents-back, read-places}
+use Rattle.report.proofs.Tables.{printed-one}
 use Rattle.chainplater.specs.Coder.{valueBytes, flag, decodedBytes, encodedBytes, encodingBytes}
 use Rattle.chainplater.specs.Record.{recordIn, recordBytes, outcomeBytes}
 use Rattle.chainplater.specs.Switches.{lookedBytes}
@@ -30,7 +31,7 @@ use Rattle.chainplater.specs.Verdict.{judgingBytes, fixedBy}
 use Rattle.chainplater.proofs.Bytes.{record-size, outcome-size, record-back, record-again, refused-bytes}
 use Rattle.chainplater.proofs.Bytes.{refused-write, flag-taken, flag-refused, same-refusal, same-bytes, judged-one}
 use Rattle.chainplater.proofs.Bytes.{causes-one, same-conditions, same-commands}
-use Rattle.chainplater.proofs.Captures.{capture-fresh, capture-judged, capture-caused, capture-listed}
+use Rattle.chainplater.proofs.Captures.{capture-fresh, capture-caused, capture-listed}
 use Rattle.chainplater.proofs.chainplater_fresh.Kinds as fresh-kinds
 use Rattle.chainplater.proofs.chainplater_fresh.Reads as fresh-fn
 use Rattle.chainplater.proofs.chainplater_fresh.Statement as fresh-statement
@@ -75,6 +76,10 @@ use Rattle.chainplater.proofs.chainplater_write.Kinds as write-kinds
 use Rattle.chainplater.proofs.chainplater_write.Reads as write-fn
 use Rattle.chainplater.proofs.chainplater_write.Statement as write-statement
 use Rattle.chainplater.proofs.chainplater_write.Met as write-met
+use Rattle.chainplater.proofs.chainplater_table.Kinds as table-kinds
+use Rattle.chainplater.proofs.chainplater_table.Reads as table-fn
+use Rattle.chainplater.proofs.chainplater_table.Statement as table-statement
+use Rattle.chainplater.proofs.chainplater_table.Met as table-met
 
 -- Each function answers, and leaves in the memory that it was lent, what the definitions say, for every input. (`statement`
 -- is the contract, as the checker reads it off the source; it asks nothing of the caller.)
@@ -110,6 +115,9 @@ read-right = read-met.met
 
 write-right : {M : Type 1} → write-statement.statement M
 write-right = write-met.met
+
+table-right : {M : Type 1} → table-statement.statement M
+table-right = table-met.met
 
 -- Two answers that the promise of a function allows are equal, and so are two contents of each output. (`Post` is the
 -- function's `ensures`.)
@@ -194,6 +202,12 @@ book-unique κs args x y s t p q = one-value (p .1 .0) (q .1 .0)
 size-unique : OneContent 4 write-kinds.ps write-kinds.r write-fn.Post (λ κs exit. now (exit .1 .1 .1 .0))
 size-unique κs args x y s t p q = one-value (p .1 .1) (q .1 .1)
 
+text-unique : OneAnswer 2 table-kinds.ps table-kinds.r table-fn.Post
+text-unique κs args x y s t p q = printed-one p q .1
+
+page-unique : OneContent 2 table-kinds.ps table-kinds.r table-fn.Post (λ κs exit. now (exit .1 .0))
+page-unique κs args x y s t p q = printed-one p q .0
+
 -- The outputs have as many bytes as the functions are lent.
 record-long : (s : Controller) → length (recordBytes s) ≡ 10
 record-long = record-size
@@ -251,21 +265,15 @@ write-refused contents = refused-write (contentsIn contents)
 contents-right : (book : List ℕ) → contentsIn (bytesOf (reading book .contents)) ≡ reading book .contents
 contents-right book = contents-back (reading book .contents) (read-places book)
 
--- From the settings of every capture of a book that was read a fresh record is made; and the judge refuses no such capture:
--- its settings fit, and its body is whole steps, no more of them than the judge takes.
+-- From the settings of every capture of a book that was read a fresh record is made.
 captures-fresh : (book : List ℕ) → reading book .refusal ≡ 0
     → (i : ℕ) → i < length (counted (reading book .contents)) →
     let e = getD (counted (reading book .contents)) i noEntry in
     making (e .n) (e .mask) (e .w) ≡ record { refusal = 0; controller = fresh (e .n) (e .mask) (e .w) }
 captures-fresh = capture-fresh
 
-captures-judged : (book : List ℕ) → reading book .refusal ≡ 0
-    → (i : ℕ) → i < length (counted (reading book .contents)) →
-    let e = getD (counted (reading book .contents)) i noEntry in
-    (j : Judging) → Right (e .n) (e .mask) (e .w) (bodyOf book e) j → j .refusal ≡ 0
-captures-judged = capture-judged
-
--- Nor does it with tables of 16,384 words for the causes.
+-- The judge that shows the causes refuses no such capture, with tables of 16,384 words. (Nor does the judge: `captures-judged` of
+-- `report`.)
 captures-caused : (book : List ℕ) → reading book .refusal ≡ 0
     → (i : ℕ) → i < length (counted (reading book .contents)) →
     let e = getD (counted (reading book .contents)) i noEntry in

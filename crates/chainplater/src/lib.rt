@@ -29,6 +29,7 @@ ghost use Rattle.explain.specs.Verdict.{told};
 ghost use Rattle.pair.specs.Coder.{decoding};
 ghost use Rattle.pair.specs.Request.{requests};
 ghost use Rattle.pair.specs.Table.{valueOf};
+ghost use Rattle.report.specs.Table.{Printed};
 ghost use Rattle.switches.specs.Extend.{extending, extended};
 ghost use Rattle.switches.specs.LastChange.{looking};
 ghost use lib.ListN.{length};
@@ -287,4 +288,11 @@ pub extern "C" fn chainplater_write(
             number
         }
     }
+}
+
+#[no_mangle]
+pub extern "C" fn chainplater_table(book: &[u8], out: &mut [u8; 2048]) -> usize
+    ensures { λ r. ⌜ Printed (now (book .entry)) (now (out .entry)) (now (out .exit)) r ⌝ }
+{
+    report::put_table(book, out)
 }

@@ -1,27 +1,30 @@
 -- A capture of a book: its settings fit and its body is whole steps, no more of them than the judge takes. So the judge does not
 -- refuse it, and names no step that it does not have.
-use mathlib.Core.Path.{_≡_, refl, ap, _∙_}
+use mathlib.Core.Path.{_≡_, ap, _∙_}
 use mathlib.Core.Bool.{true, and-eq-true-iff}
-use mathlib.Core.List.{List, [], _∷_}
-use mathlib.Core.Logic.{inl, inr}
+use mathlib.Core.List.{List}
+use mathlib.Core.Logic.{inl, inr, ⊎-elim}
 use Prim.Native.Nat.{ℕ, _*_, _%_, _≤_, _<_}
 use native.Mathlib.Omega.{arith}
 use lib.Dec.{eqb}
-use lib.ListN.{length}
+use lib.ListN.{length, getD}
 use borrow.Author.Tests.{eqb-true, eq-eqb, le-ltb}
 use Rattle.basics.specs.Capture.{rowsOf}
 use Rattle.basics.specs.First.{firstOf}
 use Rattle.basics.specs.Settings.{sectionsFit, maskFits}
-use Rattle.basics.specs.Table.{every}
 use Rattle.basics.proofs.Fitting.{fit-bounds}
 use Rattle.basics.proofs.Rows.{rows-long}
-use Rattle.book.specs.Format.{settingsFit, most, bodyOf}
+use Rattle.basics.proofs.Table.{at-entry}
+use Rattle.book.specs.Format.{settingsFit, most, bodyOf, noEntry}
+use Rattle.book.specs.Reader.{reading}
+use Rattle.book.specs.Writer.{counted}
 use Rattle.book.specs.declared.Entry.{Entry}
-use Rattle.explain.specs.Verdict.{Judging, told, judgeFaults, Found}
+use Rattle.book.proofs.Trips.{read-fit, read-whole}
+use Rattle.explain.specs.Verdict.{Judging, told, judgeFaults, Found, Right}
 use Rattle.explain.specs.declared.Verdict.{Verdict}
 use Rattle.explain.specs.declared.Verdict.the-variants as verdict
 use Rattle.explain.proofs.Exact.{found, first-within}
-use Rattle.report.specs.Table.{Judged, AllJudged}
+use Rattle.report.specs.Table.{Judged}
 
 -- all steps are explained, or one of them is the first that is not
 abbrev pub Within : ℕ → Verdict → Type 0
@@ -65,3 +68,25 @@ module _ (book : List ℕ) where
             omega (arith, at-same same, rows-all, first-within (e .n) (e .mask) (e .w) (rowsOf (bodyOf book e)) i some none)
         go (verdict.Refused k) (inl (same, some)) = absurd (omega (arith, verdict-same same))
         go (verdict.Refused k) (inr (i, same, some, none)) = absurd (omega (arith, verdict-same same))
+
+-- the captures of a book that was read, by their number
+module _ (book : List ℕ) (none : reading book .refusal ≡ 0) (i : ℕ) (h : i < length (counted (reading book .contents))) where
+  abbrev entry : Entry
+  entry = getD (counted (reading book .contents)) i noEntry
+
+  pub capture-fits : settingsFit entry ≡ true
+  capture-fits = at-entry settingsFit (counted (reading book .contents)) noEntry (read-fit book none) i h
+
+  pub capture-whole : (length (bodyOf book entry) ≡ 4 * entry .steps) × (length (bodyOf book entry) ≤ most)
+  capture-whole =
+      let test = read-whole book none in (
+        eqb-true (length (bodyOf book entry)) (4 * entry .steps)
+            (at-entry (λ e. eqb (length (bodyOf book e)) (4 * e .steps)) (counted (reading book .contents)) noEntry (test .0) i h),
+        test .1 entry,
+      )
+
+  pub capture-judged : (j : Judging) → Right (entry .n) (entry .mask) (entry .w) (bodyOf book entry) j → j .refusal ≡ 0
+  capture-judged j right =
+      ⊎-elim (λ told. ap (λ (a : Judging). a .refusal) (told .0)) (λ told. ap (λ (a : Judging). a .refusal) (told .1))
+      (found (entry .n) (entry .mask) (entry .w) (bodyOf book entry) j right
+      (unrefused book entry capture-fits (capture-whole .0) (capture-whole .1)))

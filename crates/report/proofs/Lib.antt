@@ -1,7 +1,10 @@
--- Theorems is the front door; the rest are the laws behind it, some of them for the door for C and Rust and for the program.
+-- Theorems is the front door; the rest are the laws behind it, some of them for the program and for the door for C and Rust.
 mod Puts
 mod Verdicts
 pub mod Captures
-pub mod Longest
+mod Longest
 pub mod Tables
 mod Walking
+mod Example
+mod Attained
+mod Theorems

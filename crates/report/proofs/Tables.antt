@@ -2,11 +2,12 @@
 use mathlib.Core.Path.{_≡_, refl, sym, ap, _∙_}
 use mathlib.Core.Bool.{Bool, true, false, and-eq-true-iff}
 use mathlib.Core.List.{List, [], _∷_, _++_}
-use Prim.Native.Nat.{ℕ, _+_, _*_, _≤_}
+use Prim.Native.Nat.{ℕ, _*_, _≤_, _<_}
 use native.Mathlib.Omega.{arith}
 use lib.Dec.{eqb}
-use lib.ListN.{length, drop, length-append, length-drop, length-take}
-use borrow.Author.Tests.{eqb-true, eqb-false, eq-eqb, ne-eqb}
+use lib.ListN.{length, take, drop, length-append, length-drop, length-take}
+use lib.Seq.{take-at}
+use borrow.Author.Tests.{eqb-true, eqb-false, ne-eqb, lt-ltb}
 use Rattle.basics.specs.Table.{every}
 use Rattle.basics.proofs.Fitting.{fit-bounds}
 use Rattle.book.specs.Format.{countIn, entriesOf, settingsFit, most, IsBook, bodyOf, firstBody}
@@ -107,9 +108,9 @@ module _ (book : List ℕ) where
       go false e = rw (table-refused text table (eqb-false (refusal book) 0 e)) (refused-short (refusal book))
 
 -- two pages, and two answers, that the promise allows
-pub printed-one : (book before after after′ : List ℕ) (answer answer′ : ℕ) → Printed book before after answer
+pub printed-one : {book before after after′ : List ℕ} {answer answer′ : ℕ} → Printed book before after answer
     → Printed book before after′ answer′ → (after ≡ after′) × (answer ≡ answer′)
-printed-one book before after after′ answer answer′ p q =
+printed-one {book} {before} p q =
     let same = table-one book (p .text) (q .text) (p .table) (q .table) in (
       p .page ∙ ap (λ (text : List ℕ). text ++ drop (length text) before) same ∙ sym (q .page),
       p .long ∙ ap length same ∙ sym (q .long),
@@ -129,3 +130,23 @@ refused-printed {page} {book} {number = number} large same some put =
       page = told .0;
       long = told .1;
     }
+
+-- the first check of all
+pub large-printed : (book : List ℕ) → most < length book → IsTable book (ending "refused " 20)
+unfolding IsTable refusal
+large-printed book large = rw (lt-ltb most (length book) large) refl
+
+-- so what is handed on to be written is a part of the page, and is the text
+module _ {book before after : List ℕ} {answer : ℕ} (printed : Printed book before after answer) where
+  pub printed-within : answer ≤ length after
+  printed-within =
+      let both = length-append (printed .text) (drop (length (printed .text)) before) in
+      omega (arith, ap length (printed .page), printed .long)
+
+  printed-text : take answer after ≡ printed .text
+  printed-text =
+      rw (printed .page, printed .long)
+      (take-at (printed .text) (drop (length (printed .text)) before) (length (printed .text)) refl)
+
+  pub printed-long : answer ≡ length (take answer after)
+  printed-long = rw printed-text (printed .long)

@@ -8,13 +8,16 @@ use lib.Dec.{eqb}
 use lib.ListN.{length}
 use Rattle.basics.specs.Capture.{rowsOf, sizeFaults}
 use Rattle.basics.specs.First.{firstOf}
+use Rattle.basics.specs.Settings.{sectionsFit, maskFits}
 use Rattle.book.specs.Format.{bodyOf}
 use Rattle.book.specs.declared.Entry.{Entry}
+use Rattle.controller.specs.Settings.{fresh}
 use Rattle.explain.specs.Verdict.{Judging, told, judgeFaults, RightBehind, Right}
 use Rattle.explain.specs.declared.Verdict.{Verdict}
 use Rattle.explain.specs.declared.Verdict.the-variants as verdict
 use Rattle.explain.proofs.Exact.{answer-one, told-one}
-use Rattle.explain.proofs.Judged.{right-some}
+use Rattle.explain.specs.Trace.{scanned}
+use Rattle.explain.proofs.Judged.{scanned-right, right-some}
 use Rattle.report.specs.Table.{Judged, AllJudged}
 
 -- the case of the enum that a right answer is
@@ -34,6 +37,14 @@ module _ (book : List ℕ) where
       let some = right-some (e .n) (e .mask) (e .w) (bodyOf book e) (sizeFaults (length (bodyOf book e))) in
       let case = right-case (e .n) (e .mask) (e .w) (bodyOf book e) (some .0) (some .1) in
       (case .0, subst (Right (e .n) (e .mask) (e .w) (bodyOf book e)) (sym (case .1)) (some .1))
+
+  -- and it is what the judge's scan gives, which can be computed
+  pub scanned-judged : (e : Entry) (v : Verdict) → sectionsFit (e .n) ≡ true → maskFits (e .n) (e .mask) ≡ true
+      → firstOf (sizeFaults (length (bodyOf book e))) ≡ 0
+      → scanned (fresh (e .n) (e .mask) (e .w)) (bodyOf book e) ≡ told v → Judged book e v
+  scanned-judged e v fits mask-fits size same =
+      subst (Right (e .n) (e .mask) (e .w) (bodyOf book e)) same
+      (scanned-right (e .n) (e .mask) (e .w) (bodyOf book e) (sizeFaults (length (bodyOf book e))) fits mask-fits size)
 
   pub judged-one : (e : Entry) (v v′ : Verdict) → Judged book e v → Judged book e v′ → v ≡ v′
   judged-one e v v′ p q = told-one v v′ (answer-one _ _ _ _ _ _ _ p q)

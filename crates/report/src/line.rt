@@ -52,13 +52,7 @@ fn put_verdict(page: &mut [u8], at: usize, steps: u16, verdict: Verdict) -> usiz
 }
 
 // The line of the capture with that number.
-pub(crate) fn put_capture(
-    page: &mut [u8],
-    at: usize,
-    book: &[u8],
-    number: usize,
-    e: Entry,
-) -> usize
+pub(crate) fn put_capture(page: &mut [u8], at: usize, book: &[u8], number: usize, e: Entry) -> usize
     requires { ⌜ LineRoom (now page) at (now book) number e ⌝ }
     ensures { λ r. ⌜ PutLine (now (page .entry)) at (now (book .entry)) number e (now (page .exit)) r ⌝ }
 {
