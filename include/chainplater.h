@@ -1,7 +1,8 @@
 /*
  * Chainplater: the K1/K2 coder, the controller for linear 1:n multiplex section protection (ITU-T G.841), the judge
  * of captured lines, the causes that explain them, the list of their switches, the reader and writer of capture books,
- * and the printed table of a book. The code behind these functions is proved; see README.md for what the proofs say and what they rest on.
+ * and the printed table of a book. The code behind these functions is proved; see README.md for what the proofs say and
+ * what they rest on.
  *
  * Every function takes every value of its arguments and ends. All but chainplater_k1, which has nothing to refuse and
  * returns nothing, and chainplater_table, which puts a refusal into words, return 0 or the number of a refusal:
@@ -178,7 +179,7 @@ uint8_t chainplater_write(const uint8_t contents[CHAINPLATER_CONTENTS], const ui
  * `unexplained` and the first step, counted from 0, up to which there is no explanation. Fields are apart by one space,
  * numbers are decimal without leading zeros, and a line feed ends each line. A book without captures has the header alone.
  * A book that chainplater_read refuses has the one line `refused N`, with the number of the refusal and a line feed.
- * out: the text at its start, the bytes behind it as they were. No text has more than 1,708 characters; none ends in a 0.
+ * out: the text at its start, the bytes behind it as they were; no 0 is put behind it. The longest text has 1,708 characters.
  * Returns the number of characters of the text.
  */
 size_t chainplater_table(const uint8_t *book, size_t length, uint8_t out[CHAINPLATER_PAGE]);

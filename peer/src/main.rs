@@ -2,10 +2,11 @@
 //! requests (02): a, c, d, e, f, j, and b, which changes nothing that is answered.
 //!
 //! Everything here was written from the papers alone, and `door` and `library` from
-//! `include/chainplater.h` besides. None of it comes from the Rattle source, by
-//! copying or by looking: two programs that share an author's misreading agree
-//! with each other and prove nothing. Every landing that changes this package
-//! keeps it that way.
+//! `include/chainplater.h` besides. The header has words for the table too, and they were
+//! read: how it stands on a page, and how long it can be, is from there, and what it says
+//! from the paper, as it was before. None of this package comes from the Rattle source, by
+//! copying or by looking: two programs that share an author's misreading agree with each
+//! other and prove nothing. Every landing that changes this package keeps it that way.
 //!
 //! Thirteen points were not reached so: what `pair::rank` answers for a channel that
 //! no group has, and `book::body` for an entry whose body is not all in the
@@ -40,8 +41,10 @@
 //!
 //! The proved library is linked, and called with the same arguments as this
 //! reading: `compare` looks for differences in what they answer and in all they
-//! are lent, `bench` for how long they take. A package that was built without it
-//! has the other commands only.
+//! are lent, `bench` for how long they take. `books` calls it too: each book is put to the
+//! program and to the library's table, and both are held against what `judge` prints here.
+//! A package that was built without the library has no `compare` and no `bench`, and its
+//! `books` are put to the program alone, which is told.
 //!
 //! `peer/run` builds the library and makes all of these comparisons. It also runs
 //! the tests of this package, holds the examples to what is expected of them, and

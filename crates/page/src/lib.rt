@@ -1,6 +1,6 @@
-// Text on a page, for the programs. A page is filled from its start and written at once, or whenever it is full. Each function
-// that puts a text takes where it begins and answers where the next one does; a text that the page has no room for is dropped
-// whole.
+// Text on a page, for the programs that print a line for each step. A page is filled from its start and written whenever it is
+// full. Each function that puts a text takes where it begins and answers where the next one does; a text that the page has no room
+// for is dropped whole.
 use libc::STDOUT_FILENO;
 ghost use Prim.Native.Nat.{_+_, _<_};
 ghost use Rattle.page.specs.Digits.{digitOf, decimal, hexadecimal};

@@ -3,21 +3,20 @@
 use mathlib.Core.Path.{_≡_, refl, sym, ap, subst, _∙_}
 use mathlib.Core.Bool.{true, and-eq-true-iff}
 use mathlib.Core.List.{List, [], _∷_, _++_, append-assoc}
-use Prim.Native.Nat.{ℕ, zero, suc, _+_, _*_, _%_, _≤_}
+use Prim.Native.Nat.{ℕ, zero, suc, _+_, _*_, _≤_}
 use native.Mathlib.Nat.{add-zero, zero-add, add-suc, suc-add}
 use native.Mathlib.Omega.{arith}
 use lib.Dec.{leb}
 use lib.ListN.{length, take, drop, replicate, length-append}
 use lib.Seq.{take-at, drop-at}
 use borrow.Author.Tests.{leb-true}
-use Rattle.basics.specs.Capture.{rowsOf, sizeFaults}
-use Rattle.basics.specs.First.{firstOf}
+use Rattle.basics.specs.Capture.{rowsOf}
 use Rattle.basics.specs.Table.{every}
 use Rattle.basics.proofs.Fitting.{fit-size}
 use Rattle.pair.specs.Request.{listed, carries, rankIn, rankOf}
 use Rattle.pair.specs.Marks.{finding, usable}
 use Rattle.controller.specs.Settings.{fresh}
-use Rattle.book.specs.Format.{contentsBytes, entriesOf, firstBody, settingsFit, most, bodyOf, placedAt, placed, bookOf}
+use Rattle.book.specs.Format.{contentsBytes, entriesOf, firstBody, bodyOf, placedAt, placed, bookOf}
 use Rattle.book.specs.Reader.{refusal}
 use Rattle.book.specs.Writer.{stepsOf}
 use Rattle.book.specs.declared.Entry.{Entry}
@@ -25,12 +24,12 @@ use Rattle.book.proofs.Laid.{length-first}
 use Rattle.book.proofs.Ordered.{book-exact}
 use Rattle.book.proofs.Trips.{made-entries, made-book}
 use Rattle.explain.specs.Cause.{arises, unseen, answers}
-use Rattle.explain.specs.Scan.{Scanned, first, scanFrom}
+use Rattle.explain.specs.Scan.{first, scanFrom}
 use Rattle.explain.specs.Trace.{start, live, next, verdictOf, scanned}
 use Rattle.explain.specs.declared.Verdict.{Verdict}
 use Rattle.explain.specs.declared.Verdict.the-variants as verdict
 use Rattle.page.specs.Digits.{decimal}
-use Rattle.report.specs.Table.{header, lineText, linesText, Judged, AllJudged, IsTable}
+use Rattle.report.specs.Table.{header, lineText, linesText, IsVerdict, AreVerdicts, IsTable}
 use Rattle.report.proofs.Verdicts.{scanned-judged}
 
 -- k idle steps, and one in which no controller sends the pair: its bit 5 is 0
@@ -82,7 +81,7 @@ module _ (book : List ℕ) where
       ∙ take-at (body k) (bodies ks) (4 * (k + 1)) (length-body k)
 
   body-judged : (k at : ℕ) → bodyOf book (placedAt at (entry k)) ≡ body k → k ≤ 1000
-      → Judged book (placedAt at (entry k)) (verdict.Unexplained k)
+      → IsVerdict book (placedAt at (entry k)) (verdict.Unexplained k)
   body-judged k at here small =
       let long = ap length here ∙ length-body k in
       scanned-judged book (placedAt at (entry k)) (verdict.Unexplained k) refl refl
@@ -90,7 +89,7 @@ module _ (book : List ℕ) where
       (ap (scanned (fresh 14 0 0)) here ∙ ap verdictOf (scan-body k 0 ∙ ap first (zero-add k)))
 
   all-judged : (ks before : List ℕ) → book ≡ before ++ bodies ks → every (λ k. leb k 1000) ks ≡ true
-      → AllJudged book (placed (length before) (entries ks)) (firsts ks)
+      → AreVerdicts book (placed (length before) (entries ks)) (firsts ks)
   unfolding placed
   all-judged [] before same small = tt
   all-judged (k ∷ ks) before same small =
@@ -98,7 +97,7 @@ module _ (book : List ℕ) where
       let next-before = before ++ body k in
       let long : length next-before ≡ length before + 4 * (k + 1) = omega (arith, length-append before (body k), length-body k) in (
         body-judged k (length before) (body-here k ks before same) (leb-true k 1000 (both .0)),
-        subst (λ (at : ℕ). AllJudged book (placed at (entries ks)) (firsts ks)) long
+        subst (λ (at : ℕ). AreVerdicts book (placed at (entries ks)) (firsts ks)) long
             (all-judged ks next-before (same ∙ sym (append-assoc before (body k) (bodies ks))) (both .1)),
       )
 
@@ -115,12 +114,12 @@ is-book =
     let long = length-bodies ks in
     book-exact longestBook .1 (made-book (entries ks) (bodies ks) (omega arith) refl long (omega arith))
 
-judged-all : AllJudged longestBook (entriesOf longestBook) (firsts ks)
+judged-all : AreVerdicts longestBook (entriesOf longestBook) (firsts ks)
 unfolding bookOf
 judged-all =
     let front : List ℕ = 1 ∷ 64 ∷ contentsBytes (placed (firstBody 64) (entries ks)) in
     let long : length front ≡ firstBody 64 = omega (arith, length-first (firstBody 64) (entries ks)) in
-    subst (λ (es : List Entry). AllJudged longestBook es (firsts ks))
+    subst (λ (es : List Entry). AreVerdicts longestBook es (firsts ks))
     (ap (λ (at : ℕ). placed at (entries ks)) long ∙ sym (made-entries (entries ks) (bodies ks)))
     (all-judged longestBook ks front refl refl)
 

@@ -12,7 +12,6 @@ use borrow.Author.Tests.{eqb-true, eq-eqb, le-ltb}
 use Rattle.basics.specs.Capture.{rowsOf}
 use Rattle.basics.specs.First.{firstOf}
 use Rattle.basics.specs.Settings.{sectionsFit, maskFits}
-use Rattle.basics.proofs.Fitting.{fit-bounds}
 use Rattle.basics.proofs.Rows.{rows-long}
 use Rattle.basics.proofs.Table.{at-entry}
 use Rattle.book.specs.Format.{settingsFit, most, bodyOf, noEntry}
@@ -24,7 +23,7 @@ use Rattle.explain.specs.Verdict.{Judging, told, judgeFaults, Found, Right}
 use Rattle.explain.specs.declared.Verdict.{Verdict}
 use Rattle.explain.specs.declared.Verdict.the-variants as verdict
 use Rattle.explain.proofs.Exact.{found, first-within}
-use Rattle.report.specs.Table.{Judged}
+use Rattle.report.specs.Table.{IsVerdict}
 
 -- all steps are explained, or one of them is the first that is not
 abbrev pub Within : ℕ → Verdict → Type 0
@@ -50,7 +49,7 @@ module _ (book : List ℕ) where
     rows-all : length (rowsOf (bodyOf book e)) ≡ e .steps
     rows-all = let rows = rows-long (bodyOf book e) in omega arith
 
-    pub judged-within : (v : Verdict) → Judged book e v → Within (e .steps) v
+    pub judged-within : (v : Verdict) → IsVerdict book e v → Within (e .steps) v
     judged-within v right =
         go v (found (e .n) (e .mask) (e .w) (bodyOf book e) (told v) right unrefused)
       where

@@ -12,14 +12,14 @@ use Rattle.explain.specs.Trace.{next}
 use Rattle.explain.specs.declared.Verdict.the-variants as verdict
 use Rattle.page.specs.Digits.{decimal}
 use Rattle.report.specs.Example.{paperBook, paperTable}
-use Rattle.report.specs.Table.{header, lineText, AllJudged, IsTable}
+use Rattle.report.specs.Table.{header, lineText, AreVerdicts, IsTable}
 use Rattle.report.proofs.Verdicts.{scanned-judged}
 
 paper-read : refusal paperBook ≡ 0
 unfolding refusal bodyFaults entriesIn entryIn twoAt fourAt
 paper-read = refl
 
-paper-judged : AllJudged paperBook (entriesOf paperBook) (verdict.Explained 3 ∷ verdict.Unexplained 1 ∷ [])
+paper-judged : AreVerdicts paperBook (entriesOf paperBook) (verdict.Explained 3 ∷ verdict.Unexplained 1 ∷ [])
 unfolding entriesIn entryIn twoAt fourAt next arises unseen answers finding usable carries listed rankOf rankIn
 paper-judged = (
   scanned-judged paperBook (getD (entriesOf paperBook) 0 noEntry) (verdict.Explained 3) refl refl refl refl,

@@ -2,7 +2,7 @@
 use mathlib.Core.Path.{_≡_, refl}
 use mathlib.Core.Bool.{Bool, true, false}
 use mathlib.Core.List.{List, [], _∷_, _++_}
-use Prim.Native.Nat.{ℕ, suc, _+_, _*_, _-_, _/_, _≤_, _<_}
+use Prim.Native.Nat.{ℕ, _+_, _*_, _-_, _/_, _≤_, _<_}
 use native.Mathlib.Omega.{arith}
 use lib.Dec.{ltb}
 use lib.ListN.{length, length-append}
@@ -13,7 +13,7 @@ use Rattle.explain.specs.declared.Verdict.{Verdict}
 use Rattle.explain.specs.declared.Verdict.the-variants as verdict
 use Rattle.page.specs.Digits.{decimal}
 use Rattle.page.proofs.Numbers.{decimal-below, decimal-most}
-use Rattle.report.specs.Table.{header, field, ending, verdictText, lineText, linesText}
+use Rattle.report.specs.Table.{chars, header, field, ending, verdictText, lineText, linesText}
 use Rattle.report.proofs.Captures.{Within}
 
 -- two digits are free; the third comes with 100, and each further one with at least 900 more
@@ -95,5 +95,5 @@ captures-short entries verdicts fit few room =
     let second : (stepsOf entries + 799 * length entries) / 900 ≤ 74 = omega arith in
     omega arith
 
-pub refused-short : (number : ℕ) → length (ending "refused " number) ≤ 1708
+pub refused-short : (number : ℕ) → length (ending (chars "refused ") number) ≤ 1708
 refused-short number = let digits = decimal-most number in simp length-append (omega arith)

@@ -10,14 +10,14 @@ use lib.Seq.{take-at}
 use borrow.Author.Tests.{eqb-true, eqb-false, ne-eqb, lt-ltb}
 use Rattle.basics.specs.Table.{every}
 use Rattle.basics.proofs.Fitting.{fit-bounds}
-use Rattle.book.specs.Format.{countIn, entriesOf, settingsFit, most, IsBook, bodyOf, firstBody}
+use Rattle.book.specs.Format.{countIn, entriesOf, settingsFit, most, bodyOf, firstBody}
 use Rattle.book.specs.Reader.{refusal}
 use Rattle.book.specs.declared.Entry.{Entry}
 use Rattle.book.proofs.Entries.{length-entries}
 use Rattle.book.proofs.Ordered.{order-ends, whole-bodies, book-exact}
 use Rattle.explain.specs.declared.Verdict.{Verdict}
 use Rattle.report.specs.Put.{Room, Put}
-use Rattle.report.specs.Table.{header, ending, linesText, AllJudged, IsTable, Printed}
+use Rattle.report.specs.Table.{chars, header, ending, linesText, AreVerdicts, IsTable, Printed}
 use Rattle.report.proofs.Captures.{both-fit, judged-within}
 use Rattle.report.proofs.Longest.{AllFit, captures-short, refused-short}
 use Rattle.report.proofs.Puts.{from-start}
@@ -32,7 +32,7 @@ module _ (book : List ℕ) where
   unfolding IsTable
   read-table none = rw none (verdicts book (entriesOf book), all-some book (entriesOf book), refl)
 
-  pub refused-table : (refusal book ≡ 0 → ⊥) → IsTable book (ending "refused " (refusal book))
+  pub refused-table : (refusal book ≡ 0 → ⊥) → IsTable book (ending (chars "refused ") (refusal book))
   unfolding IsTable
   refused-table some = rw (ne-eqb (refusal book) 0 some) refl
 
@@ -42,7 +42,7 @@ module _ (book : List ℕ) where
       let told = rw none at table in
       told .2 ∙ ap (λ (vs : List Verdict). header ++ linesText 0 (entriesOf book) vs) (all-one book (entriesOf book) (told .0) (told .1))
 
-  pub table-refused : (text : List ℕ) → IsTable book text → (refusal book ≡ 0 → ⊥) → text ≡ ending "refused " (refusal book)
+  pub table-refused : (text : List ℕ) → IsTable book text → (refusal book ≡ 0 → ⊥) → text ≡ ending (chars "refused ") (refusal book)
   unfolding IsTable
   table-refused text table some = rw (ne-eqb (refusal book) 0 some) at table
 
@@ -51,7 +51,7 @@ module _ (book : List ℕ) where
     where
       go : (t : Bool) → eqb (refusal book) 0 ≡ t → (text : List ℕ) × IsTable book text
       go true e = (tableOf, read-table (eqb-true (refusal book) 0 e))
-      go false e = (ending "refused " (refusal book), refused-table (eqb-false (refusal book) 0 e))
+      go false e = (ending (chars "refused ") (refusal book), refused-table (eqb-false (refusal book) 0 e))
 
   pub table-one : (text text′ : List ℕ) → IsTable book text → IsTable book text′ → text ≡ text′
   table-one text text′ p q = go (eqb (refusal book) 0) refl
@@ -70,7 +70,7 @@ module _ (book : List ℕ) where
   body-short e small = simp (length-take, length-drop) (omega arith)
 
   fit-all : (entries : List Entry) (vs : List Verdict) → length book ≤ most → every settingsFit entries ≡ true
-      → every whole entries ≡ true → AllJudged book entries vs
+      → every whole entries ≡ true → AreVerdicts book entries vs
       → AllFit entries vs
   fit-all [] [] small fits all-whole all = tt
   fit-all (e ∷ entries) (v ∷ vs) small fits all-whole all =
@@ -117,22 +117,22 @@ printed-one {book} {before} p q =
     )
 
 -- the line of a refused book has room, and is its table
-pub refused-room : (page : List ℕ) (number : ℕ) → 2048 ≤ length page → Room page 0 (ending "refused " number)
+pub refused-room : (page : List ℕ) (number : ℕ) → 2048 ≤ length page → Room page 0 (ending (chars "refused ") number)
 refused-room page number large = let short = refused-short number in record { fits = omega arith }
 
 pub refused-printed : {page book after : List ℕ} {number end : ℕ} → 2048 ≤ length page → number ≡ refusal book
-    → (number ≡ 0 → ⊥) → Put page 0 (ending "refused " number) after end → Printed book page after end
+    → (number ≡ 0 → ⊥) → Put page 0 (ending (chars "refused ") number) after end → Printed book page after end
 refused-printed {page} {book} {number = number} large same some put =
     let told = from-start (refused-room page number large) put in
     record {
-      text = ending "refused " number;
+      text = ending (chars "refused ") number;
       table = rw same (refused-table book (λ none. some (same ∙ none)));
       page = told .0;
       long = told .1;
     }
 
 -- the first check of all
-pub large-printed : (book : List ℕ) → most < length book → IsTable book (ending "refused " 20)
+pub large-printed : (book : List ℕ) → most < length book → IsTable book (ending (chars "refused ") 20)
 unfolding IsTable refusal
 large-printed book large = rw (lt-ltb most (length book) large) refl
 

@@ -10,7 +10,7 @@ use Rattle.book.specs.Reader.{reading}
 use Rattle.book.specs.Writer.{counted}
 use Rattle.explain.specs.Verdict.{Judging, Right}
 use Rattle.report.specs.Example.{paperBook, paperTable}
-use Rattle.report.specs.Table.{header, ending, IsTable}
+use Rattle.report.specs.Table.{chars, header, ending, IsTable}
 use Rattle.report.proofs.Attained.{longestBook, longestTable, longest-table, longest-length}
 use Rattle.report.proofs.Captures.{capture-judged}
 use Rattle.report.proofs.Example.{paper-printed, empty-printed}
@@ -62,5 +62,5 @@ paper-right = paper-printed
 empty-right : IsTable (1 ∷ 0 ∷ []) header
 empty-right = empty-printed
 
-large-right : (book : List ℕ) → most < length book → IsTable book (ending "refused " 20)
+large-right : (book : List ℕ) → most < length book → IsTable book (ending (chars "refused ") 20)
 large-right = large-printed

@@ -18,7 +18,7 @@ use Rattle.explain.specs.declared.Verdict.the-variants as verdict
 use Rattle.explain.proofs.Exact.{answer-one, told-one}
 use Rattle.explain.specs.Trace.{scanned}
 use Rattle.explain.proofs.Judged.{scanned-right, right-some}
-use Rattle.report.specs.Table.{Judged, AllJudged}
+use Rattle.report.specs.Table.{IsVerdict, AreVerdicts}
 
 -- the case of the enum that a right answer is
 right-case : (n mask w : ℕ) (bytes : List ℕ) (j : Judging) → Right n mask w bytes j → (v : Verdict) × (told v ≡ j)
@@ -32,7 +32,7 @@ right-case n mask w bytes j right = go (eqb (firstOf (judgeFaults n mask (length
     go false e = (verdict.Refused (firstOf (judgeFaults n mask (length bytes))), sym (rw e at right))
 
 module _ (book : List ℕ) where
-  pub judged-some : (e : Entry) → (v : Verdict) × Judged book e v
+  pub judged-some : (e : Entry) → (v : Verdict) × IsVerdict book e v
   judged-some e =
       let some = right-some (e .n) (e .mask) (e .w) (bodyOf book e) (sizeFaults (length (bodyOf book e))) in
       let case = right-case (e .n) (e .mask) (e .w) (bodyOf book e) (some .0) (some .1) in
@@ -41,23 +41,23 @@ module _ (book : List ℕ) where
   -- and it is what the judge's scan gives, which can be computed
   pub scanned-judged : (e : Entry) (v : Verdict) → sectionsFit (e .n) ≡ true → maskFits (e .n) (e .mask) ≡ true
       → firstOf (sizeFaults (length (bodyOf book e))) ≡ 0
-      → scanned (fresh (e .n) (e .mask) (e .w)) (bodyOf book e) ≡ told v → Judged book e v
+      → scanned (fresh (e .n) (e .mask) (e .w)) (bodyOf book e) ≡ told v → IsVerdict book e v
   scanned-judged e v fits mask-fits size same =
       subst (Right (e .n) (e .mask) (e .w) (bodyOf book e)) same
       (scanned-right (e .n) (e .mask) (e .w) (bodyOf book e) (sizeFaults (length (bodyOf book e))) fits mask-fits size)
 
-  pub judged-one : (e : Entry) (v v′ : Verdict) → Judged book e v → Judged book e v′ → v ≡ v′
+  pub judged-one : (e : Entry) (v v′ : Verdict) → IsVerdict book e v → IsVerdict book e v′ → v ≡ v′
   judged-one e v v′ p q = told-one v v′ (answer-one _ _ _ _ _ _ _ p q)
 
   abbrev pub verdicts : List Entry → List Verdict
   verdicts [] = []
   verdicts (e ∷ entries) = judged-some e .0 ∷ verdicts entries
 
-  pub all-some : (entries : List Entry) → AllJudged book entries (verdicts entries)
+  pub all-some : (entries : List Entry) → AreVerdicts book entries (verdicts entries)
   all-some [] = tt
   all-some (e ∷ entries) = (judged-some e .1, all-some entries)
 
-  pub all-one : (entries : List Entry) (vs : List Verdict) → AllJudged book entries vs → vs ≡ verdicts entries
+  pub all-one : (entries : List Entry) (vs : List Verdict) → AreVerdicts book entries vs → vs ≡ verdicts entries
   all-one [] [] all = refl
   all-one (e ∷ entries) (v ∷ vs) all =
       ap (λ (u : Verdict). u ∷ vs) (judged-one e v (judged-some e .0) (all .0) (judged-some e .1))

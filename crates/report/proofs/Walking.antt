@@ -1,6 +1,6 @@
 -- Captures one after the other: what is still to be put, at the place that has been reached, completes the lines.
 use mathlib.Core.Path.{_≡_, refl, sym, ap, subst, _∙_}
-use mathlib.Core.List.{List, [], _∷_, _++_}
+use mathlib.Core.List.{List, [], _++_}
 use Prim.Native.Nat.{ℕ, _+_, _-_, _≤_, _<_}
 use native.Mathlib.Nat.{add-zero}
 use native.Mathlib.Numerals.{add-one}
@@ -16,8 +16,8 @@ use Rattle.book.proofs.Entries.{length-entries, accepted}
 use Rattle.book.proofs.Ordered.{book-exact}
 use Rattle.explain.specs.declared.Verdict.{Verdict}
 use Rattle.report.specs.Put.{Room, Put, LineRoom, PutLine, Opened}
-use Rattle.report.specs.Table.{header, lineText, linesText, Judged, Printed}
-use Rattle.report.proofs.Puts.{put-long, behind, room-behind, from-start}
+use Rattle.report.specs.Table.{header, lineText, linesText, IsVerdict, Printed}
+use Rattle.report.proofs.Puts.{put-long, behind, from-start}
 use Rattle.report.proofs.Tables.{tableOf, read-table, read-short}
 use Rattle.report.proofs.Verdicts.{verdicts, judged-some, judged-one}
 
@@ -74,7 +74,7 @@ module _ (book : List ℕ) where
       abbrev entry : Entry
       entry = getD (entriesOf book) i noEntry
 
-      rest-next : (v : Verdict) → Judged book entry v → rest i ≡ lineText i entry v ++ rest (i + 1)
+      rest-next : (v : Verdict) → IsVerdict book entry v → rest i ≡ lineText i entry v ++ rest (i + 1)
       rest-next v right =
           ap (λ (es : List Entry). linesText i es (verdicts book es)) (drop-cons (entriesOf book) i noEntry h)
           ∙ rw (add-one i, judged-one book entry v (judged-some book entry .0) right (judged-some book entry .1))

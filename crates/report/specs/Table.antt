@@ -2,7 +2,7 @@
 use mathlib.Core.Path.{_≡_}
 use mathlib.Core.List.{List, [], _∷_, _++_}
 use Prim.Native.Nat.{ℕ, _+_}
-use Prim.Native.Char.{Char, code}
+use Prim.Native.Char.{code}
 use Prim.Native.String.{String, [] as none, _∷_ as _then_}
 use lib.Dec.{eqb}
 use lib.ListN.{length, drop}
@@ -23,18 +23,18 @@ chars (c then rest) = code c ∷ chars rest
 abbrev pub header : List ℕ
 header = chars "capture sections steps verdict at\n"
 
--- a field, and the space behind it; a word with its number, which end a line
+-- a field and the space behind it; a word and its number, which end a line
 abbrev pub field : ℕ → List ℕ
 field v = decimal v ++ chars " "
 
-abbrev pub ending : String → ℕ → List ℕ
-ending word v = chars word ++ (decimal v ++ chars "\n")
+abbrev pub ending : List ℕ → ℕ → List ℕ
+ending word v = word ++ (decimal v ++ chars "\n")
 
 -- the verdict, and steps or first step; or `refused` and the number
 abbrev pub verdictText : Verdict → List ℕ
-verdictText (verdict.Explained steps) = ending "explained " steps
-verdictText (verdict.Unexplained first) = ending "unexplained " first
-verdictText (verdict.Refused number) = ending "refused " number
+verdictText (verdict.Explained steps) = ending (chars "explained ") steps
+verdictText (verdict.Unexplained first) = ending (chars "unexplained ") first
+verdictText (verdict.Refused number) = ending (chars "refused ") number
 
 -- capture number, n, steps, verdict, and steps or first step
 unfoldable pub lineText : ℕ → Entry → Verdict → List ℕ
@@ -47,24 +47,24 @@ linesText number (e ∷ entries) (v ∷ verdicts) = lineText number e v ++ lines
 linesText number [] (v ∷ verdicts) = []
 linesText number (e ∷ entries) [] = []
 
--- the verdict is the judge's right answer for a capture of the book; and so is one for each
-abbrev pub Judged : List ℕ → Entry → Verdict → Type 0
-Judged book e v = Right (e .n) (e .mask) (e .w) (bodyOf book e) (told v)
+-- a verdict is that of a capture of the book if it is the judge's right answer; and verdicts, one a capture, if each is
+abbrev pub IsVerdict : List ℕ → Entry → Verdict → Type 0
+IsVerdict book e v = Right (e .n) (e .mask) (e .w) (bodyOf book e) (told v)
 
-abbrev pub AllJudged : List ℕ → List Entry → List Verdict → Type 0
-AllJudged book [] [] = Unit {0}
-AllJudged book (e ∷ entries) (v ∷ verdicts) = Judged book e v × AllJudged book entries verdicts
-AllJudged book [] (v ∷ verdicts) = ⊥
-AllJudged book (e ∷ entries) [] = ⊥
+abbrev pub AreVerdicts : List ℕ → List Entry → List Verdict → Type 0
+AreVerdicts book [] [] = Unit {0}
+AreVerdicts book (e ∷ entries) (v ∷ verdicts) = IsVerdict book e v × AreVerdicts book entries verdicts
+AreVerdicts book [] (v ∷ verdicts) = ⊥
+AreVerdicts book (e ∷ entries) [] = ⊥
 
 -- the text of a book's table: the header and the lines; of a refused book the one line `refused N`, without header
 unfoldable pub IsTable : List ℕ → List ℕ → Type 0
 IsTable book text =
     if eqb (refusal book) 0
     then ((verdicts : List Verdict)
-    × AllJudged book (entriesOf book) verdicts
+    × AreVerdicts book (entriesOf book) verdicts
     × (text ≡ header ++ linesText 0 (entriesOf book) verdicts))
-    else (text ≡ ending "refused " (refusal book))
+    else (text ≡ ending (chars "refused ") (refusal book))
 
 -- what is promised of the page, as it was before and as it is after: the text at its start, behind it what was there; and the
 -- answer is the text's length

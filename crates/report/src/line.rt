@@ -6,8 +6,8 @@ use explain::Verdict;
 use explain::judge;
 ghost use Rattle.page.specs.Digits.{decimal};
 ghost use Rattle.report.specs.Put.{Room, Put, LineRoom, PutLine};
-ghost use Rattle.report.specs.Table.{verdictText, field};
-ghost use mathlib.Core.List.{_++_, _∷_, []};
+ghost use Rattle.report.specs.Table.{ending, verdictText, field};
+ghost use mathlib.Core.List.{_++_};
 
 pub(crate) fn put(page: &mut [u8], at: usize, text: &[u8]) -> usize
     requires { ⌜ Room (now page) at (now text) ⌝ }
@@ -30,8 +30,8 @@ fn put_number(page: &mut [u8], at: usize, v: u64, text: &[u8]) -> usize
 
 // The end of a line: a word, and the number that goes with it.
 pub(crate) fn put_ending(page: &mut [u8], at: usize, word: &[u8], v: u64) -> usize
-    requires { ⌜ Room (now page) at (now word ++ (decimal v ++ (10 ∷ []))) ⌝ }
-    ensures { λ r. ⌜ Put (now (page .entry)) at (now (word .entry) ++ (decimal v ++ (10 ∷ []))) (now (page .exit)) r ⌝ }
+    requires { ⌜ Room (now page) at (ending (now word) v) ⌝ }
+    ensures { λ r. ⌜ Put (now (page .entry)) at (ending (now (word .entry)) v) (now (page .exit)) r ⌝ }
 {
     let at = put(page, at, word);
     put_number(page, at, v, b"\n")

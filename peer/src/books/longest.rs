@@ -58,12 +58,14 @@ mod tests {
     /// make no line longer.
     const STEPS: [usize; 10] = [0, 1, 10, 11, 100, 101, 1_000, 1_001, 10_000, 10_001];
 
-    /// The verdict and the numbers of steps, with the spaces before them.
+    /// The most that a line can have behind its sections. Without an explanation its word is
+    /// longer by two, and its last number shorter by one at most.
     fn line_end(steps: usize) -> usize {
-        let explained = format!(" {steps} explained {steps}\n");
-        let unexplained = steps.checked_sub(1);
-        let unexplained = unexplained.map(|last| format!(" {steps} unexplained {last}\n"));
-        explained.len().max(unexplained.map_or(0, |line| line.len()))
+        let end = match steps.checked_sub(1) {
+            Some(last) => format!(" {steps} unexplained {last}\n"),
+            None => format!(" {steps} explained {steps}\n"),
+        };
+        end.len()
     }
 
     /// Capture by capture, with the most that the lines so far can end in, by the steps that

@@ -139,7 +139,7 @@ fn count([verdict, high, low]: [u8; VERDICT], tried: bool, capture: &[u8], tally
     let repeating = (explained || unexplained) && most_repeat(rows);
     let long = capture.len() == MOST_BYTES;
     tally.count(verdict.into());
-    for (kind, applies) in [
+    tally.count_those([
         (LONG, long),
         (BY_BRUTE_FORCE, tried),
         (
@@ -154,11 +154,7 @@ fn count([verdict, high, low]: [u8; VERDICT], tried: bool, capture: &[u8], tally
         (REPEATING_WITH_WAITS, repeating && wait_on(rows)),
         (REPEATING_LONG, repeating && long),
         (UNEXPLAINED_IN_A_WAIT, wait_on(last_two(wrong))),
-    ] {
-        if applies {
-            tally.count(kind);
-        }
-    }
+    ]);
 }
 
 fn last_two(rows: &[Row]) -> &[Row] {

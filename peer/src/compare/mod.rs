@@ -201,7 +201,7 @@ const SUBJECTS: [Subject; 20] = [
     },
     Subject {
         name: "table, drawn",
-        least: 20_000,
+        least: 50_000,
         refusals: &[0, 20, 21, 22, 23, 24, 25, 26, 27, 28, 31, 32],
         kinds: &tables::DRAWN_KINDS,
         parts: tables::DRAWN_PARTS,

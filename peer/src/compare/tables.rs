@@ -7,7 +7,7 @@ use super::drawn_book::{self, damage_often};
 use super::lent::{Lent, LentSlice, Memory, Part};
 use super::tally::{Both, Caller, Tally};
 use super::Due;
-use crate::book::{self, Contents, MOST_ENTRIES};
+use crate::book::{self, MOST_ENTRIES};
 use crate::books::capture::{bind, has_alarm, Capture, Settings};
 use crate::books::longest::{self, still, CHARACTERS};
 use crate::books::runs::LONGEST;
@@ -18,7 +18,7 @@ use std::ops::RangeInclusive;
 
 pub const DRAWN_PARTS: usize = 100;
 /// Of each part, behind those that all parts have.
-const BOOKS: usize = 200;
+const BOOKS: usize = 500;
 
 /// No bytes, too few, as many as a book has at least, and on both sides of the most.
 const LENGTHS: [usize; 6] = [0, 1, 2, 65_536, 65_537, 70_000];
@@ -29,15 +29,15 @@ pub const NUMBER_PARTS: usize = 60;
 
 /// The first three are of captures, the others of books.
 pub const DRAWN_KINDS: [Due; 9] = [
-    ("captures explained", 50_000),
-    ("captures unexplained", 20_000),
-    ("captures explained with alarms", 10_000),
-    ("sound", 5_000),
-    ("damaged", 10_000),
-    ("by length", 18 * DRAWN_PARTS as u64),
-    ("no captures", 2 * DRAWN_PARTS as u64),
-    ("64 captures", 1_000),
-    ("of 1,708 characters", DRAWN_PARTS as u64),
+    ("captures explained", 100_000),
+    ("captures unexplained", 50_000),
+    ("captures explained with alarms", 20_000),
+    ("sound", 10_000),
+    ("damaged", 20_000),
+    ("by length", 1_800),
+    ("no captures", 500),
+    ("64 captures", 2_000),
+    ("of 1,708 characters", 100),
 ];
 const EXPLAINED: usize = 0;
 const UNEXPLAINED: usize = 1;
@@ -49,7 +49,7 @@ const NO_CAPTURES: usize = 6;
 const MOST_CAPTURES: usize = 7;
 const LONGEST_TEXT: usize = 8;
 
-/// The same captures twice, of which those of no steps are explained both times.
+/// A capture of no steps has no last one to go wrong, and is explained both times.
 pub const NUMBER_KINDS: [Due; 2] = [
     ("captures explained", LONGEST as u64 + 2),
     ("captures unexplained", LONGEST as u64),
@@ -209,33 +209,21 @@ fn count(tally: &mut Tally, book: &[u8], text: &[u8]) {
     let Ok(contents) = book::read(book) else {
         return;
     };
-    count_book(tally, &contents, text);
     let entries = contents.entries().unwrap_or_default();
-    let lines = text.split(|&byte| byte == b'\n').skip(1);
-    for (entry, line) in entries.iter().zip(lines) {
+    tally.count_those([
+        (NO_CAPTURES, entries.is_empty()),
+        (MOST_CAPTURES, entries.len() == MOST_ENTRIES),
+        (LONGEST_TEXT, text.len() == CHARACTERS),
+    ]);
+    let text = String::from_utf8_lossy(text);
+    for (entry, line) in entries.iter().zip(text.lines().skip(1)) {
+        let explained = line.contains(" explained ");
         let (rows, _) = book::body(book, entry).as_chunks();
-        let explained = line.split(|&byte| byte == b' ').any(|word| word == b"explained");
-        for (kind, applies) in [
+        let alarms = rows.iter().any(has_alarm);
+        tally.count_those([
             (EXPLAINED, explained),
             (UNEXPLAINED, !explained),
-            (EXPLAINED_WITH_ALARMS, explained && rows.iter().any(has_alarm)),
-        ] {
-            if applies {
-                tally.count(kind);
-            }
-        }
-    }
-}
-
-fn count_book(tally: &mut Tally, contents: &Contents, text: &[u8]) {
-    let captures = usize::from(contents.count);
-    for (kind, applies) in [
-        (NO_CAPTURES, captures == 0),
-        (MOST_CAPTURES, captures == MOST_ENTRIES),
-        (LONGEST_TEXT, text.len() == CHARACTERS),
-    ] {
-        if applies {
-            tally.count(kind);
-        }
+            (EXPLAINED_WITH_ALARMS, explained && alarms),
+        ]);
     }
 }

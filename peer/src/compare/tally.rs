@@ -86,6 +86,13 @@ impl Tally {
         self.kinds[kind] += 1;
     }
 
+    /// Those kinds that apply.
+    pub fn count_those<const N: usize>(&mut self, kinds: [(usize, bool); N]) {
+        for (kind, _) in kinds.into_iter().filter(|&(_, applies)| applies) {
+            self.count(kind);
+        }
+    }
+
     pub fn differ(&mut self, tell: impl FnOnce() -> String) {
         self.differences += 1;
         if self.told.len() < MOST_TOLD {

@@ -394,5 +394,5 @@ fn as_many_calls_are_due_as_the_order_asks_for() {
     assert_eq!(subject("causes, drawn").kinds[0], ("explained", 100_000));
     assert!(due("switches") >= 600_000 && due("last change") >= 400_000);
     assert!(due("read") >= 100_000 && due("write") >= 100_000);
-    assert!(due("table") >= 50_000);
+    assert!(due("table") >= 80_000);
 }

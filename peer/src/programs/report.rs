@@ -158,14 +158,10 @@ impl<'a> Report<'a> {
     /// whenever it is made.
     fn shortcomings(&self) -> Vec<String> {
         let mut found = Vec::new();
-        let Counts {
-            books,
-            by_library,
-            lines,
-            ..
-        } = Counts::sum(&self.counts);
-        if self.comparison.in_library && self.linked && by_library < books {
-            found.push(format!("{by_library} books by the library, {books} are due"));
+        let sum = Counts::sum(&self.counts);
+        let (books, called, lines) = (sum.books, sum.by_library, sum.lines);
+        if self.comparison.in_library && self.linked && called < books {
+            found.push(format!("{called} books by the library, {books} are due"));
         }
         let (what, (least, due)) = (self.comparison.lines, self.comparison.least);
         if lines < least {
@@ -435,7 +431,8 @@ paper, book 1 of 3 bytes:
             let shown = shown.map(|&kind| Shown { kind, lines }).collect();
             let (clean, text) = one_book(&comparison, library, shown);
             assert_eq!(clean, expected, "{text}");
-            assert_eq!([NOT_CALLED, WITHOUT_LIBRARY].map(|line| text.contains(line)), told);
+            let found = [NOT_CALLED, WITHOUT_LIBRARY].map(|line| text.contains(line));
+            assert_eq!(found, told, "{text}");
         }
     }
 

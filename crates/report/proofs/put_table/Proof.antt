@@ -1,10 +1,7 @@
 -- `put_table` meets its contract: what was read is put, or the refusal.
 use mathlib.Core.Path.{sym, ap, _∙_}
-use native.Mathlib.Omega.{arith}
 use Rattle.book.specs.declared.Reading.{Reading}
 use Rattle.book.proofs.Trips.{read-refusal}
-use Rattle.report.specs.Table.{ending}
-use Rattle.report.proofs.Puts.{put-as, room-as}
 use Rattle.report.proofs.Tables.{refused-room, refused-printed}
 use borrow.Author.Needs.{needs}
 use Rattle.report.proofs.put_table.Statement.{statement}

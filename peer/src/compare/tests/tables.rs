@@ -6,7 +6,7 @@ use super::*;
 use crate::book;
 use crate::judge::table::Table;
 
-/// Of these it is the text that is right.
+/// The text itself is right with these.
 pub const ONE_LESS: &str = "the length is one less";
 pub const ONE_MORE: &str = "the length is one more";
 pub const PAST_THE_PAGE: &str = "the length is one more than the page has";
@@ -133,7 +133,7 @@ fn a_library_that_prints_otherwise_is_noticed() {
     }
 }
 
-/// Each but the last of these is noticed whatever book it is, so it is told of each.
+/// In the first books already, which are all that is told of.
 #[test]
 fn a_length_and_the_rest_of_the_page_are_told() {
     for (wrong, told) in [
@@ -149,7 +149,7 @@ fn a_length_and_the_rest_of_the_page_are_told() {
     }
 }
 
-/// It is one book in each part that has it.
+/// One book of each part has it: it is not as here, and not as long as it has to be.
 #[test]
 fn the_longest_text_is_held_to_its_length() {
     let tally = part_of("table", &Fake { wrong: CUT });

@@ -1,6 +1,7 @@
 -- `put_ending` meets its contract.
-use mathlib.Core.List.{[], _∷_, _++_}
+use mathlib.Core.List.{_++_}
 use Rattle.page.specs.Digits.{decimal}
+use Rattle.report.specs.Table.{chars}
 use Rattle.report.proofs.Puts.{behind, room-first, room-behind}
 use borrow.Author.Needs.{needs}
 use Rattle.report.proofs.line.put_ending.Statement.{statement}
@@ -9,7 +10,7 @@ use Rattle.report.proofs.line.put_ending.Tie as tie
 put-requires : tie.Need-put-requires
 put-requires c κs =
     let start = c .before .before .before in
-    room-first (decimal (start .args .v) ++ (10 ∷ [])) (start .pre)
+    room-first (decimal (start .args .v) ++ chars "\n") (start .pre)
 
 slice-aggregate-put-number : tie.Need-slice-aggregate-put-number
 slice-aggregate-put-number c = search needs
