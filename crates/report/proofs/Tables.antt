@@ -2,6 +2,7 @@
 use mathlib.Core.Path.{_≡_, refl, sym, ap, _∙_}
 use mathlib.Core.Bool.{Bool, true, false, and-eq-true-iff}
 use mathlib.Core.List.{List, [], _∷_, _++_}
+use mathlib.Core.Logic.{_↔_}
 use Prim.Native.Nat.{ℕ, _*_, _≤_, _<_}
 use native.Mathlib.Omega.{arith}
 use lib.Dec.{eqb}
@@ -107,14 +108,22 @@ module _ (book : List ℕ) where
           rw (table-read text table none) (read-short none)
       go false e = rw (table-refused text table (eqb-false (refusal book) 0 e)) (refused-short (refusal book))
 
--- two pages, and two answers, that the promise allows
+-- the promise, told of the one table
+pub printed-is : (book text before after : List ℕ) (answer : ℕ) → IsTable book text
+    → Printed book before after answer ↔ ((after ≡ text ++ drop (length text) before) × (answer ≡ length text))
+printed-is book text before after answer table = (
+  λ p.
+      let same = table-one book (p .text) text (p .table) table in
+      (p .page ∙ ap (λ (t : List ℕ). t ++ drop (length t) before) same, p .long ∙ ap length same),
+  λ told. record { text = text; table = table; page = told .0; long = told .1 },
+)
+
+-- so two pages, and two answers, that it allows are equal
 pub printed-one : {book before after after′ : List ℕ} {answer answer′ : ℕ} → Printed book before after answer
     → Printed book before after′ answer′ → (after ≡ after′) × (answer ≡ answer′)
-printed-one {book} {before} p q =
-    let same = table-one book (p .text) (q .text) (p .table) (q .table) in (
-      p .page ∙ ap (λ (text : List ℕ). text ++ drop (length text) before) same ∙ sym (q .page),
-      p .long ∙ ap length same ∙ sym (q .long),
-    )
+printed-one {book} {before} {after′ = after′} {answer′ = answer′} p q =
+    let told = printed-is book (p .text) before after′ answer′ (p .table) .0 q in
+    (p .page ∙ sym (told .0), p .long ∙ sym (told .1))
 
 -- the line of a refused book has room, and is its table
 pub refused-room : (page : List ℕ) (number : ℕ) → 2048 ≤ length page → Room page 0 (ending (chars "refused ") number)

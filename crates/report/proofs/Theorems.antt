@@ -1,8 +1,9 @@
 -- The front door: what is proved of the printed table, each theorem in full with the line that cites its proof.
 use mathlib.Core.Path.{_≡_}
-use mathlib.Core.List.{List, [], _∷_}
+use mathlib.Core.List.{List, [], _∷_, _++_}
+use mathlib.Core.Logic.{_↔_}
 use Prim.Native.Nat.{ℕ, _≤_, _<_}
-use lib.ListN.{length, getD}
+use lib.ListN.{length, getD, drop}
 use denote.Ref.{now}
 use Rattle.basics.proofs.One.{OneAnswer, OneContent}
 use Rattle.book.specs.Format.{most, bodyOf, noEntry}
@@ -10,21 +11,26 @@ use Rattle.book.specs.Reader.{reading}
 use Rattle.book.specs.Writer.{counted}
 use Rattle.explain.specs.Verdict.{Judging, Right}
 use Rattle.report.specs.Example.{paperBook, paperTable}
-use Rattle.report.specs.Table.{chars, header, ending, IsTable}
+use Rattle.report.specs.Table.{chars, header, ending, IsTable, Printed}
 use Rattle.report.proofs.Attained.{longestBook, longestTable, longest-table, longest-length}
 use Rattle.report.proofs.Captures.{capture-judged}
 use Rattle.report.proofs.Example.{paper-printed, empty-printed}
-use Rattle.report.proofs.Tables.{table-some, table-one, table-short, large-printed, printed-one}
+use Rattle.report.proofs.Tables.{table-some, table-one, table-short, large-printed, printed-is, printed-one}
 use Rattle.report.proofs.put_table.Kinds as put-table-kinds
 use Rattle.report.proofs.put_table.Reads as put-table-fn
 use Rattle.report.proofs.put_table.Statement as put-table-statement
 use Rattle.report.proofs.put_table.Met as put-table-met
 
--- For every book and every page: the page afterwards is the text of the book's table, then what was there, and the answer is the
--- text's length. (`statement` is the contract, as the checker reads it off the source; it asks nothing of the caller. What the
--- text is, is `IsTable`; the verdicts in it are the judge's right answers, `Right`.)
+-- For every book and every page what is promised holds. (`statement` is the contract, as the checker reads it off the source; it
+-- asks nothing of the caller.)
 put-table-right : {M : Type 1} → put-table-statement.statement M
 put-table-right = put-table-met.met
+
+-- What is promised: the page afterwards is the text of the book's table, then what was there, and the answer is the text's length.
+-- (What the text is, is `IsTable`; the verdicts in it are the judge's right answers, `Right`.)
+put-table-exact : (book text before after : List ℕ) (answer : ℕ) → IsTable book text
+    → Printed book before after answer ↔ ((after ≡ text ++ drop (length text) before) × (answer ≡ length text))
+put-table-exact = printed-is
 
 -- Two answers that the promise allows are equal, and so are two contents of the page. (`Post` is the function's `ensures`.)
 put-table-unique : OneAnswer 2 put-table-kinds.ps put-table-kinds.r put-table-fn.Post
