@@ -6,7 +6,7 @@ use mathlib.Core.List.{List, [], _∷_, _++_, append-assoc}
 use Prim.Native.Nat.{ℕ, zero, suc, _+_, _*_, _≤_}
 use native.Mathlib.Nat.{add-zero, zero-add, add-suc, suc-add}
 use native.Mathlib.Omega.{arith}
-use lib.Dec.{leb}
+use lib.Dec.{leb, ltb}
 use lib.ListN.{length, take, drop, replicate, length-append}
 use lib.Seq.{take-at, drop-at}
 use borrow.Author.Tests.{leb-true}
@@ -16,7 +16,7 @@ use Rattle.basics.proofs.Fitting.{fit-size}
 use Rattle.pair.specs.Request.{listed, carries, rankIn, rankOf}
 use Rattle.pair.specs.Marks.{finding, usable}
 use Rattle.controller.specs.Settings.{fresh}
-use Rattle.book.specs.Format.{contentsBytes, entriesOf, firstBody, bodyOf, placedAt, placed, bookOf}
+use Rattle.book.specs.Format.{entryBytes, contentsBytes, entriesOf, firstBody, bodyOf, placedAt, placed, bookOf}
 use Rattle.book.specs.Reader.{refusal}
 use Rattle.book.specs.Writer.{stepsOf}
 use Rattle.book.specs.declared.Entry.{Entry}
@@ -135,3 +135,8 @@ longest-table =
 pub longest-length : length longestTable ≡ 1708
 unfolding longestTable lineText decimal placed
 longest-length = refl
+
+-- and the book's numbers are bytes
+pub longest-bytes : every (λ b. ltb b 256) longestBook ≡ true
+unfolding bookOf placed contentsBytes entryBytes
+longest-bytes = refl

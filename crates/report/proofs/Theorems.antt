@@ -1,10 +1,13 @@
 -- The front door: what is proved of the printed table, each theorem in full with the line that cites its proof.
 use mathlib.Core.Path.{_≡_}
+use mathlib.Core.Bool.{true}
 use mathlib.Core.List.{List, [], _∷_, _++_}
 use mathlib.Core.Logic.{_↔_}
 use Prim.Native.Nat.{ℕ, _≤_, _<_}
+use lib.Dec.{ltb}
 use lib.ListN.{length, getD, drop}
 use denote.Ref.{now}
+use Rattle.basics.specs.Table.{every}
 use Rattle.basics.proofs.One.{OneAnswer, OneContent}
 use Rattle.book.specs.Format.{most, bodyOf, noEntry}
 use Rattle.book.specs.Reader.{reading}
@@ -12,7 +15,7 @@ use Rattle.book.specs.Writer.{counted}
 use Rattle.explain.specs.Verdict.{Judging, Right}
 use Rattle.report.specs.Example.{paperBook, paperTable}
 use Rattle.report.specs.Table.{chars, header, ending, IsTable, Printed}
-use Rattle.report.proofs.Attained.{longestBook, longestTable, longest-table, longest-length}
+use Rattle.report.proofs.Attained.{longestBook, longestTable, longest-bytes, longest-table, longest-length}
 use Rattle.report.proofs.Captures.{capture-judged}
 use Rattle.report.proofs.Example.{paper-printed, empty-printed}
 use Rattle.report.proofs.Tables.{table-some, table-one, table-short, large-printed, printed-is, printed-one}
@@ -46,12 +49,17 @@ table-complete = table-some
 table-unique : (book text text′ : List ℕ) → IsTable book text → IsTable book text′ → text ≡ text′
 table-unique = table-one
 
--- The longest table has 1,708 characters: none has more, and one has as many. So 2,048 bytes are enough for every book.
+-- The longest table has 1,708 characters: none has more, and that of a book, in bytes, has as many. So 2,048 bytes are enough for
+-- every book.
 table-longest : (book text : List ℕ) → IsTable book text → length text ≤ 1708
 table-longest = table-short
 
-longest-there : (book : List ℕ) × (text : List ℕ) × IsTable book text × (length text ≡ 1708)
-longest-there = (longestBook, longestTable, longest-table, longest-length)
+longest-there : (book : List ℕ)
+    × (text : List ℕ)
+    × (every (λ b. ltb b 256) book ≡ true)
+    × IsTable book text
+    × (length text ≡ 1708)
+longest-there = (longestBook, longestTable, longest-bytes, longest-table, longest-length)
 
 -- No line says `refused`: the judge refuses no capture of a book that was read.
 captures-judged : (book : List ℕ) → reading book .refusal ≡ 0
