@@ -13,7 +13,7 @@ use Rattle.explain.specs.declared.Verdict.{Verdict}
 use Rattle.explain.specs.declared.Verdict.the-variants as verdict
 use Rattle.page.specs.Digits.{decimal}
 use Rattle.page.proofs.Numbers.{decimal-below, decimal-most}
-use Rattle.report.specs.Table.{chars, header, field, ending, verdictText, lineText, linesText}
+use Rattle.report.specs.Table.{chars, header, ending, verdictText, lineText, linesText}
 use Rattle.report.proofs.Captures.{Within}
 
 -- two digits are free; the third comes with 100, and each further one with at least 900 more
@@ -36,9 +36,6 @@ AllFit (e ∷ entries) (v ∷ verdicts) = Fits e v × AllFit entries verdicts
 AllFit [] (v ∷ verdicts) = ⊥
 AllFit (e ∷ entries) [] = ⊥
 
-long-field : (v : ℕ) → length (field v) ≡ length (decimal v) + 1
-long-field v = simp length-append
-
 verdict-short : (steps : ℕ) (v : Verdict) → steps < 100000 → Within steps v
     → length (decimal steps) + length (verdictText v) ≤ 17 + (steps + 800) / 900 + (steps + 799) / 900
 verdict-short steps (verdict.Explained k) small same =
@@ -58,7 +55,7 @@ unfolding lineText
 line-short number e v fits =
     let sections = decimal-below 1 (e .n) (omega (arith, fits .0)) in
     let rest = verdict-short (e .steps) v (fits .1) (fits .2) in
-    simp (length-append, long-field) (omega arith)
+    simp length-append (omega arith)
 
 -- the numbers below 10 have one digit, those below 64 no more than two
 number-short : (number : ℕ) → number < 64 → length (decimal number) + (10 - number) ≤ 2 + (10 - (number + 1))
