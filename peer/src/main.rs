@@ -30,6 +30,8 @@
 //! was written from the papers alone. And so was the way of `causes::fill`, to keep what
 //! a step leaves open in the tables and to settle it from the last step back. What speaks
 //! for that is the controller, which sends the captures under the causes that are found.
+//! Handed over, too, was the book of `books::longest`, and how many characters its table
+//! has. What speaks for that is a search over all numbers of steps, which was not.
 //!
 //! The programs are compared by what they print: `sequences` for the byte pair and
 //! the controller, `trials` for the capture book, `k1` for what is said of each K1
