@@ -12,7 +12,7 @@
  *    3  the record is not acceptable         22  byte 0 of the book is not 1
  *    4  the conditions are not n + 1         23  more than 64 captures
  *    5  a condition is above 2               24  the contents are cut short
- *    6  the command is above 4               25  a spare byte is not 0
+ *    6  the command is above 4               25  a spare byte, or the options, above 1
  *    7  the channel does not fit the command 26  a body is not where the one before it ends
  *    8  the capture is not whole steps       27  a body ends past the book
  *    9  the capture has over 16,384 steps    28  bytes are left over
@@ -31,8 +31,12 @@
  * from several threads at once. Numbers of more than one byte are big-endian; but a list or table is one of numbers,
  * `uint16_t` or `uint32_t`, in the machine's own order, at a place that suits them.
  *
- * A record of a controller is 10 bytes: n (1), mask (2), W (2), accepted K1 (1), accepted K2 (1), K1 last sent (1),
- * steps of wait left (2).
+ * Options are one byte, the spare byte of a capture in a book. 1 is the setting hold: the controller keeps a command that is
+ * overridden, and brings it back once the cause has gone. 0 is the controller without it. Above 1 there are none.
+ *
+ * A record of a controller is 12 bytes: n (1), options (1), mask (2), W (2), accepted K1 (1), accepted K2 (1), K1 last sent
+ * (1), steps of wait left (2), the held command as a K1 (1): F0 lockout, Ec forced switch, 8c manual switch of section c, 00
+ * for none. Without hold it is 00, and the held command is the one last sent.
  */
 #ifndef CHAINPLATER_H
 #define CHAINPLATER_H
@@ -44,11 +48,11 @@
 extern "C" {
 #endif
 
-#define CHAINPLATER_RECORD 10
+#define CHAINPLATER_RECORD 12
 #define CHAINPLATER_K1 4
 #define CHAINPLATER_DECODED 6
 #define CHAINPLATER_ENCODED 2
-#define CHAINPLATER_STEP 17
+#define CHAINPLATER_STEP 19
 #define CHAINPLATER_VERDICT 3
 #define CHAINPLATER_CHANGES 2
 #define CHAINPLATER_CHANGE 3
@@ -57,11 +61,11 @@ extern "C" {
 #define CHAINPLATER_PAGE 2048
 
 /*
- * A fresh controller for n sections, of which those in the mask (bit c - 1 for section c) are of high priority, with a
- * wait to restore of `wait` steps. Refusals 1, 2, in this order.
+ * A fresh controller with these options for n sections, of which those in the mask (bit c - 1 for section c) are of high
+ * priority, with a wait to restore of `wait` steps. Refusals 25 (options above 1), 1, 2, in this order.
  * record: the record; zeros where refused.
  */
-uint8_t chainplater_fresh(uint8_t n, uint16_t mask, uint16_t wait, uint8_t record[CHAINPLATER_RECORD]);
+uint8_t chainplater_fresh(uint8_t n, uint8_t options, uint16_t mask, uint16_t wait, uint8_t record[CHAINPLATER_RECORD]);
 
 /*
  * What the coder's rules say of a K1, whatever the K2 with it is.
@@ -94,9 +98,15 @@ uint8_t chainplater_encode(uint8_t n, uint8_t code, uint8_t channel, uint8_t bri
  * switch) for a channel (0 for the first three, 1 to n for the other two). Of sections that ask at equal rank section 0
  * comes first, then the one whose request the record has as last sent, then the lower one; against the accepted request
  * the lower channel wins. Where the pair received is an alarm, the step acts as if section 0 had failed, whatever
- * condition it was handed for it; the conditions are checked as they are handed in. Refusals 1 to 7, in this order.
- * out: 0 the refusal, 1 to 10 the record after the step, 11 K1 sent, 12 K2 sent, 13 channel bridged, 14 channel
- * selected, 15 mark of the received pair, 16 fate of the command (0 none was given, 1 taken, 2 denied). Where
+ * condition it was handed for it; the conditions are checked as they are handed in.
+ * With hold, a new command is held if none is, or if it is of higher rank than the held one, and is then taken even if it is
+ * not sent; else it is denied. What is held stays so until a clear, or until such a command; a clear is always taken. Without
+ * hold a command that is not sent is forgotten and, if new, denied.
+ * Refusals 1 to 7, in this order. A record is acceptable (refusal 3) if its options are not above 1, its accepted pair is
+ * usable, its K1 last sent is a usable one whose code goes with the mask, its steps of wait are 1 to W with WTR and else 0,
+ * and its held command is 00 or, with hold, F0, Ec or 8c with c from 1 to n.
+ * out: 0 the refusal, 1 to 12 the record after the step, 13 K1 sent, 14 K2 sent, 15 channel bridged, 16 channel
+ * selected, 17 mark of the received pair, 18 fate of the command (0 none was given, 1 taken, 2 denied). Where
  * refused: the refusal, the record as it was given, and zeros.
  */
 uint8_t chainplater_step(const uint8_t record[CHAINPLATER_RECORD], uint8_t k1, uint8_t k2,
@@ -106,12 +116,13 @@ uint8_t chainplater_step(const uint8_t record[CHAINPLATER_RECORD], uint8_t k1, u
 /*
  * The judge. A capture is four bytes a step: K1 and K2 received, K1 and K2 sent. It is explained if there are section
  * conditions and commands, one set a step, with which a fresh controller of these settings, receiving those bytes, sends
- * precisely these. Refusals 1, 2, 8, 9, in this order.
+ * precisely these. Refusals 25 (options above 1), 1, 2, 8, 9, in this order. Hold changes no verdict: a capture is explained
+ * with it exactly if it is without it.
  * out: 0 the verdict (1 explained, 2 unexplained, 0 refused), 1 and 2 the number of steps if explained, the first
  * step, counted from 0, up to which there is no explanation if not, 0 where refused.
  */
-uint8_t chainplater_judge(uint8_t n, uint16_t mask, uint16_t wait, const uint8_t *capture, size_t length,
-                          uint8_t out[CHAINPLATER_VERDICT]);
+uint8_t chainplater_judge(uint8_t n, uint8_t options, uint16_t mask, uint16_t wait, const uint8_t *capture,
+                          size_t length, uint8_t out[CHAINPLATER_VERDICT]);
 
 /*
  * The judge, which also shows how an explained capture came about: for each step a word of section conditions and a word of
@@ -121,15 +132,15 @@ uint8_t chainplater_judge(uint8_t n, uint16_t mask, uint16_t wait, const uint8_t
  * at 0. A word of command has the command (0 none, 1 clear, 2 lockout, 3 forced switch, 4 manual switch) in its upper byte
  * and the channel in its lower.
  * `conditions_room` and `commands_room` are the numbers of words that the two tables have, not of bytes.
- * Refusals, in this order: 1, 2, 8, 9; 11 if either table has fewer words than the capture has steps. They come before the
- * verdict: a capture that nothing explains is refused too if a table is short.
+ * Refusals, in this order: 25 (options above 1), 1, 2, 8, 9; 11 if either table has fewer words than the capture has steps.
+ * They come before the verdict: a capture that nothing explains is refused too if a table is short.
  * conditions, commands: explained, a word for each step, from step 0, and what stands behind the last step's as it was; not
  * explained or refused, all as it was.
  * out: as for chainplater_judge.
  */
-uint8_t chainplater_causes(uint8_t n, uint16_t mask, uint16_t wait, const uint8_t *capture, size_t length,
-                           uint32_t *conditions, size_t conditions_room, uint16_t *commands, size_t commands_room,
-                           uint8_t out[CHAINPLATER_VERDICT]);
+uint8_t chainplater_causes(uint8_t n, uint8_t options, uint16_t mask, uint16_t wait, const uint8_t *capture,
+                           size_t length, uint32_t *conditions, size_t conditions_room, uint16_t *commands,
+                           size_t commands_room, uint8_t out[CHAINPLATER_VERDICT]);
 
 /*
  * The list of the switches. A change is a step, counted from 0, whose sent K1 differs from that of the step before it; the one
@@ -158,15 +169,15 @@ uint8_t chainplater_last_change(const uint8_t *capture, size_t length, const uin
  * The contents of a book. Refusals 20 to 24, in this order; then entry by entry 25, 31, 32, 26, 27, so that 27 of one
  * entry comes before 25 of the next; then 28.
  * out: 0 the count of captures, then 64 places of 12 bytes: n (1), spare (1), mask (2), W (2), offset of the body in
- * the book (4), steps (2). The places past the count are zeros; all is 0 where refused. A body is four bytes a
- * step, from its offset.
+ * the book (4), steps (2). The spare byte holds the options of the capture. The places past the count are zeros; all is 0
+ * where refused. A body is four bytes a step, from its offset.
  */
 uint8_t chainplater_read(const uint8_t *book, size_t length, uint8_t out[CHAINPLATER_CONTENTS]);
 
 /*
  * The book of some contents, laid out as chainplater_read answers them, and of the bodies joined in that order. The
- * spare and offset bytes of the places, and the places past the count, are not looked at. Refusals 23; then entry by
- * entry 31, 32, so that 32 of one entry comes before 31 of the next; then 30, 20, 29, in this order.
+ * offset bytes of the places, and the places past the count, are not looked at. Refusals 23; then entry by entry 25, 31,
+ * 32, so that 32 of one entry comes before 25 of the next; then 30, 20, 29, in this order.
  * out: the book at its start, the bytes behind it as they were; refused: all as it was.
  * size: the number of bytes of the book (4); zeros where refused.
  */

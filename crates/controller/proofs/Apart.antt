@@ -1,21 +1,23 @@
 -- The three kinds of candidates, commands, conditions and waits, share no rank.
 use mathlib.Core.Path.{_≡_, refl, sym, ap, _∙_}
-use mathlib.Core.Bool.{Bool, true, false, true≢false}
-use mathlib.Core.Logic.{inl, inr}
+use mathlib.Core.Bool.{Bool, true, false, _&&_, _||_, and-eq-true-iff, true≢false}
+use mathlib.Core.Logic.{_⊎_, inl, inr, ⊎-elim}
 use Prim.Native.Nat.{ℕ, _<_}
 use native.Mathlib.Nat.{not-suc-le-zero}
 use native.Mathlib.Omega.{arith}
 use lib.Dec.{ltb, eqb}
 use borrow.Author.Tests.{eqb-true}
 use Rattle.basics.specs.Choice.{if_then_else_}
-use Rattle.pair.specs.Request.{waitCode, nothingCode, rankIn, rankOf}
+use Rattle.pair.specs.Request.{requests, carries, waitCode, nothingCode, rankIn, rankOf}
+use Rattle.pair.specs.Marks.{codeOf, channelOf}
 use Rattle.pair.proofs.Ranks.{rank-own}
 use Rattle.request.specs.declared.Request.{Request}
-use Rattle.request.proofs.Order.{choice-has}
-use Rattle.controller.specs.Settings.{high}
-use Rattle.controller.specs.Rules.{request, lockout, forced, manual, waitToRestore, noRequest, rankOfRequest}
-use Rattle.controller.specs.Rules.{isCommand, held, isClear, kept, given, inForce, failCode, degradeCode, condition}
-use Rattle.controller.specs.Rules.{isWait, waiting}
+use Rattle.request.proofs.Order.{choice-has, or-true}
+use Rattle.controller.specs.Settings.{high, noneHeld}
+use Rattle.controller.specs.Rules.{request, lockout, forced, manual, waitToRestore, noRequest, asked, rankOfRequest}
+use Rattle.controller.specs.Rules.{isCommand, held, heldBy, isClear, kept, given, inForce, failCode, degradeCode}
+use Rattle.controller.specs.Rules.{condition, isWait, waiting}
+use Rattle.controller.specs.Refusals.{heldFits}
 use Rattle.controller.specs.Asking.{OfKind}
 
 pub none-rank : rankOfRequest noRequest ≡ 0
@@ -31,6 +33,16 @@ other-rank kind x y (inl is) other some same =
 other-rank kind x y (inr none) other some same =
     let zero : rankOfRequest x ≡ 0 = ap rankOfRequest none ∙ none-rank in
     absurd (omega arith)
+
+-- LO, FS and MS
+pub command-cases : (code : ℕ) → isCommand code ≡ true → (code ≡ 0b1111) ⊎ (code ≡ 0b1110) ⊎ (code ≡ 0b1000)
+command-cases code h =
+    ⊎-elim
+    (λ two.
+    ⊎-elim (λ lo. inl (eqb-true code 0b1111 lo)) (λ fs. inr (inl (eqb-true code 0b1110 fs)))
+    (or-true (eqb code 0b1111) (eqb code 0b1110) two))
+    (λ ms. inr (inr (eqb-true code 0b1000 ms)))
+    (or-true (eqb code 0b1111 || eqb code 0b1110) (eqb code 0b1000) h)
 
 pub held-kind : (last : Request) → OfKind isCommand (held last)
 held-kind last = go (isCommand (last .code)) refl
@@ -48,12 +60,35 @@ given-kind command c =
     later : Request
     later = if eqb command 4 then manual c else noRequest
 
+-- the command that a record has is none, or one of the table; the latter with hold alone
+pub held-cases : (n : ℕ) (hold : Bool) (k1 : ℕ) → heldFits n hold k1 ≡ true
+    → (k1 ≡ noneHeld)
+    ⊎ ((hold ≡ true) × (isCommand (codeOf k1) ≡ true) × (carries requests n (codeOf k1) (channelOf k1) ≡ true))
+held-cases n hold k1 h =
+    ⊎-elim (λ none. inl (eqb-true k1 noneHeld none))
+    (λ some.
+    let carried = and-eq-true-iff (hold && isCommand (codeOf k1)) (carries requests n (codeOf k1) (channelOf k1)) .0 some in
+    let command = and-eq-true-iff hold (isCommand (codeOf k1)) .0 (carried .0) in
+    inr (command .0, command .1, carried .1))
+    (or-true (eqb k1 noneHeld)
+    (hold && isCommand (codeOf k1) && carries requests n (codeOf k1) (channelOf k1)) h)
+
+-- without the setting there is none
+pub held-off : (n k1 : ℕ) → heldFits n false k1 ≡ true → k1 ≡ noneHeld
+held-off n k1 h = ⊎-elim (λ none. none) (λ on. absurd (true≢false (sym (on .0)))) (held-cases n false k1 h)
+
+pub held-by-kind : (n : ℕ) (hold : Bool) (k1 : ℕ) (last : Request) → heldFits n hold k1 ≡ true
+    → OfKind isCommand (heldBy hold k1 last)
+held-by-kind n hold k1 last h =
+    choice-has (OfKind isCommand) hold (asked k1) (held last)
+    (⊎-elim (λ none. inr (ap asked none)) (λ some. inl (some .1)) (held-cases n hold k1 h)) (held-kind last)
+
 -- what is in force is a command, or none
-pub command-kind : (replaced : Bool) (command c : ℕ) (last : Request)
-    → OfKind isCommand (inForce replaced (kept command (held last)) (given command c))
-command-kind replaced command c last =
-    choice-has (OfKind isCommand) replaced (given command c) (kept command (held last)) (given-kind command c)
-    (choice-has (OfKind isCommand) (isClear command) noRequest (held last) (inr refl) (held-kind last))
+pub command-kind : (replaced : Bool) (command c : ℕ) (prior : Request) → OfKind isCommand prior
+    → OfKind isCommand (inForce replaced (kept command prior) (given command c))
+command-kind replaced command c prior kind =
+    choice-has (OfKind isCommand) replaced (given command c) (kept command prior) (given-kind command c)
+    (choice-has (OfKind isCommand) (isClear command) noRequest prior (inr refl) kind)
 
 pub wait-kind : (now : ℕ) (last : Request) → OfKind isWait (waiting now last)
 wait-kind now last =

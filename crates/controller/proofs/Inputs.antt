@@ -13,7 +13,8 @@ use Rattle.basics.proofs.First.{CountedFrom, none-exact}
 use Rattle.pair.specs.Request.{requests, carries}
 use Rattle.pair.specs.Marks.{codeOf, channelOf, usable}
 use Rattle.controller.specs.Settings.{settingsFaults}
-use Rattle.controller.specs.Refusals.{againstMask, waitFits, acceptable, conditionsFit, channelFits, stepFaults, refusal}
+use Rattle.controller.specs.Refusals.{againstMask, waitFits, heldFits, acceptable, conditionsFit, channelFits}
+use Rattle.controller.specs.Refusals.{stepFaults, refusal}
 use Rattle.controller.specs.declared.Controller.{Controller}
 
 pub faults-counted : (s : Controller) (conditions : List ℕ) (command c : ℕ)
@@ -50,6 +51,7 @@ pub record Acceptable (s : Controller) : Type 0 where
   pub carried : carries requests (s .n) (codeOf (s .sent)) (channelOf (s .sent)) ≡ true
   pub coded : againstMask (s .mask) (codeOf (s .sent)) (channelOf (s .sent)) ≡ false
   pub waits : waitFits (codeOf (s .sent)) (s .w) (s .left) ≡ true
+  pub held-fits : heldFits (s .n) (s .hold) (s .held) ≡ true
 
 pub acceptable-facts : (s : Controller) → acceptable s ≡ true → Acceptable s
 unfolding acceptable
@@ -57,12 +59,18 @@ acceptable-facts s h =
     let last =
     and-eq-true-iff
     (usable (s .n) (s .k1) (s .k2) && carries requests (s .n) (codeOf (s .sent)) (channelOf (s .sent))
+    && not (againstMask (s .mask) (codeOf (s .sent)) (channelOf (s .sent)))
+    && waitFits (codeOf (s .sent)) (s .w) (s .left))
+    (heldFits (s .n) (s .hold) (s .held)) .0 h in
+    let fourth =
+    and-eq-true-iff
+    (usable (s .n) (s .k1) (s .k2) && carries requests (s .n) (codeOf (s .sent)) (channelOf (s .sent))
     && not (againstMask (s .mask) (codeOf (s .sent)) (channelOf (s .sent))))
-    (waitFits (codeOf (s .sent)) (s .w) (s .left)) .0 h in
+    (waitFits (codeOf (s .sent)) (s .w) (s .left)) .0 (last .0) in
     let third =
     and-eq-true-iff
     (usable (s .n) (s .k1) (s .k2) && carries requests (s .n) (codeOf (s .sent)) (channelOf (s .sent)))
-    (not (againstMask (s .mask) (codeOf (s .sent)) (channelOf (s .sent)))) .0 (last .0) in
+    (not (againstMask (s .mask) (codeOf (s .sent)) (channelOf (s .sent)))) .0 (fourth .0) in
     let two =
     and-eq-true-iff (usable (s .n) (s .k1) (s .k2))
     (carries requests (s .n) (codeOf (s .sent)) (channelOf (s .sent))) .0 (third .0) in
@@ -70,12 +78,13 @@ acceptable-facts s h =
       pair-usable = two .0;
       carried = two .1;
       coded = not-true (againstMask (s .mask) (codeOf (s .sent)) (channelOf (s .sent))) (third .1);
-      waits = last .1;
+      waits = fourth .1;
+      held-fits = last .1;
     }
 
 pub facts-acceptable : (s : Controller) → Acceptable s → acceptable s ≡ true
 unfolding acceptable
-facts-acceptable s a = rw (a .pair-usable, a .carried, a .coded, a .waits)
+facts-acceptable s a = rw (a .pair-usable, a .carried, a .coded, a .waits) (a .held-fits)
 
 -- the refusals of the settings come first, and then the others
 by-settings : (f m : Bool) (rest : ℕ) →

@@ -12,4 +12,6 @@ pub mod Sending
 pub mod Making
 pub mod Keeping
 mod Staying
+pub mod Ranking
+mod Remembering
 mod Theorems

@@ -3,6 +3,7 @@
 use mathlib.Core.Path.{_≡_, refl, sym, _∙_}
 use mathlib.Core.Bool.{Bool, true, false, _&&_, false≢true}
 use mathlib.Core.List.{List, [], _∷_}
+use mathlib.Core.Logic.{_⊎_, inl, inr}
 use Prim.Native.Nat.{ℕ, suc, _+_, _≤_, _<_}
 use native.Mathlib.Omega.{arith}
 use lib.Dec.{leb, eqb, leb·zero}
@@ -16,9 +17,9 @@ use Rattle.request.specs.declared.Request.{Request}
 use Rattle.request.proofs.Order.{Each}
 use Rattle.controller.specs.Settings.{high}
 use Rattle.controller.specs.Rules.{request, lockout, forced, manual, waitToRestore, reverse, noRequest}
-use Rattle.controller.specs.Rules.{failCode, degradeCode, condition, conditionsFrom, isWait}
+use Rattle.controller.specs.Rules.{isCommand, failCode, degradeCode, condition, conditionsFrom, isWait}
 use Rattle.controller.specs.Refusals.{otherPriority, againstMask}
-use Rattle.controller.proofs.Apart.{condition-has}
+use Rattle.controller.proofs.Apart.{command-cases, condition-has}
 
 module _ (n mask now : ℕ) where
   pub record Sendable (r : Request) : Type 0 where
@@ -74,6 +75,24 @@ module _ (n mask now : ℕ) where
   pub manual-sendable : (c : ℕ) → 1 ≤ c → c ≤ n → Sendable (manual c)
   unfolding heldIn
   manual-sendable c = section-sendable 0b1000 c refl (both 0b1000 refl refl) refl
+
+  -- a command of the table
+  pub command-sendable : (r : Request) → isCommand (r .code) ≡ true → carries requests n (r .code) (r .channel) ≡ true
+      → Sendable r
+  command-sendable r is carried = go (command-cases (r .code) is)
+    where
+      by-code : (code : ℕ) → Neutral code → isWait code ≡ false → r .code ≡ code → Sendable r
+      by-code code neutral wait e =
+          record {
+            carried = carried;
+            coded = rw e (neutral-coded code (r .channel) neutral);
+            waits = rw e (no-wait code wait);
+          }
+
+      go : (r .code ≡ 0b1111) ⊎ (r .code ≡ 0b1110) ⊎ (r .code ≡ 0b1000) → Sendable r
+      go (inl lo) = by-code 0b1111 (both 0b1111 refl refl) refl lo
+      go (inr (inl fs)) = by-code 0b1110 (both 0b1110 refl refl) refl fs
+      go (inr (inr ms)) = by-code 0b1000 (both 0b1000 refl refl) refl ms
 
   pub wait-sendable : (c : ℕ) → 1 ≤ c → c ≤ n → 0 < now → Sendable (waitToRestore c)
   unfolding heldIn

@@ -2,6 +2,7 @@
 use mathlib.Core.Path.{_≡_, refl, sym, ap, _∙_}
 use mathlib.Core.Bool.{Bool, true, false, _&&_, and-eq-true-iff, false≢true}
 use mathlib.Core.List.{List, [], _∷_}
+use mathlib.Core.Logic.{⊎-elim}
 use Prim.Native.Nat.{ℕ, _+_, _≤_, _<_}
 use native.Mathlib.Omega.{arith}
 use lib.Dec.{ltb, leb, eqb}
@@ -16,16 +17,18 @@ use Rattle.request.specs.Order.{byRank, byTurn}
 use Rattle.request.specs.declared.Request.{Request}
 use Rattle.request.proofs.Order.{choice-has, each-append, best-has}
 use Rattle.controller.specs.Settings.{idleK1}
-use Rattle.controller.specs.Rules.{noRequest, reverse, asked, accepted, accepting, isCommand, held, isClear}
+use Rattle.controller.specs.Rules.{noRequest, reverse, asked, accepted, accepting, isCommand, held, heldBy, isClear}
 use Rattle.controller.specs.Rules.{kept, given, replacesHeld, inForce, conditionsFrom, isFailOrDegrade, isWait, entersWait}
 use Rattle.controller.specs.Rules.{waiting, candidates, localRequest, decided}
 use Rattle.controller.specs.Step.{protection, waitOf}
 use Rattle.controller.specs.declared.Controller.{Controller}
 use Rattle.controller.specs.declared.Accepted.{Accepted}
+use Rattle.controller.specs.Asking.{OfKind}
 use Rattle.controller.proofs.Usability.{idle-usable}
+use Rattle.controller.proofs.Apart.{held-cases, held-by-kind, command-kind}
 use Rattle.controller.proofs.Inputs.{WellFormed, Acceptable, acceptable-facts}
 use Rattle.controller.proofs.Sendable.{Sendable, none-sendable, lockout-sendable, forced-sendable, manual-sendable}
-use Rattle.controller.proofs.Sendable.{wait-sendable, reverse-sendable, conditions-sendable}
+use Rattle.controller.proofs.Sendable.{command-sendable, wait-sendable, reverse-sendable, conditions-sendable}
 
 -- the pair that a step has accepted, taken apart
 pub record Usable (n : ℕ) (far : Accepted) : Type 0 where
@@ -39,14 +42,17 @@ module _ (s : Controller) (conditions : List ℕ) (command c : ℕ) (given-well 
   abbrev now : ℕ
   now = waitOf s last command
 
-  abbrev hold : Request
-  hold = kept command (held last)
+  abbrev holds : Request
+  holds = heldBy (s .hold) (s .held) last
+
+  abbrev prior : Request
+  prior = kept command holds
 
   abbrev new : Request
   new = given command c
 
   abbrev stands : Request
-  stands = inForce (replacesHeld hold new) hold new
+  stands = inForce (replacesHeld prior new) prior new
 
   abbrev near : Request
   near = localRequest (s .mask) last (protection conditions) (drop 1 conditions) stands (waiting now last)
@@ -75,19 +81,15 @@ module _ (s : Controller) (conditions : List ℕ) (command c : ℕ) (given-well 
       let e : far .request .channel ≡ channelOf (far .k1) = ap (λ (a : Accepted). a .request .channel) (u .parts) in
       rw e (carried-within requests (s .n) (codeOf (far .k1)) (channelOf (far .k1)) (p .carried))
 
-  held-sendable : Able (held last)
-  held-sendable = go (isCommand (codeOf (s .sent))) refl
+  held-sendable : Able holds
+  held-sendable =
+      choice-has Able (s .hold) (asked (s .held)) (held last)
+      (⊎-elim (λ none. rw none (none-sendable (s .n) (s .mask) now))
+      (λ some. command-sendable (s .n) (s .mask) now (asked (s .held)) (some .1) (some .2))
+      (held-cases (s .n) (s .hold) (s .held) (well .held-fits))) (go (isCommand (codeOf (s .sent))) refl)
     where
       go : (t : Bool) → isCommand (codeOf (s .sent)) ≡ t → Able (held last)
-      go true e =
-          rw e
-          record {
-            carried = well .carried;
-            coded = well .coded;
-            waits = λ h.
-                let six : codeOf (s .sent) ≡ 0b0110 = eqb-true (codeOf (s .sent)) 0b0110 h in
-                absurd (false≢true (rw six at e));
-          }
+      go true e = rw e (command-sendable (s .n) (s .mask) now last e (well .carried))
       go false e = rw e (none-sendable (s .n) (s .mask) now)
 
   given-sendable : Able new
@@ -112,10 +114,15 @@ module _ (s : Controller) (conditions : List ℕ) (command c : ℕ) (given-well 
           rw (e, f, g) (manual-sendable (s .n) (s .mask) now c (b .0) (b .1))
       go false false false e f g = rw (e, f, g) (none-sendable (s .n) (s .mask) now)
 
-  command-sendable : Able stands
-  command-sendable =
-      choice-has Able (replacesHeld hold new) new hold given-sendable
-      (choice-has Able (isClear command) noRequest (held last) (none-sendable (s .n) (s .mask) now) held-sendable)
+  pub stands-sendable : Able stands
+  stands-sendable =
+      choice-has Able (replacesHeld prior new) new prior given-sendable
+      (choice-has Able (isClear command) noRequest holds (none-sendable (s .n) (s .mask) now) held-sendable)
+
+  pub stands-kind : OfKind isCommand stands
+  stands-kind =
+      command-kind (replacesHeld prior new) command c holds
+      (held-by-kind (s .n) (s .hold) (s .held) last (well .held-fits))
 
   -- where wait remains, the K1 last sent has a section's channel
   wait-channel : (clear enters waits : Bool) → entersWait last ≡ enters → isWait (codeOf (s .sent)) ≡ waits
@@ -165,7 +172,7 @@ module _ (s : Controller) (conditions : List ℕ) (command c : ℕ) (given-well 
       (candidates (s .mask) (protection conditions) (drop 1 conditions) stands (waiting now last))
       noRequest
       (none-sendable (s .n) (s .mask) now) (
-        command-sendable,
+        stands-sendable,
         each-append Able (conditionsFrom (s .mask) 0 all) (waiting now last ∷ []) sections (waiting-sendable, tt),
       )
 

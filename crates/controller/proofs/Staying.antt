@@ -16,17 +16,18 @@ use Rattle.request.specs.Order.{turn, byRank, byTurn, best, OneOf}
 use Rattle.request.specs.declared.Request.{Request}
 use Rattle.request.proofs.Order.{NoneAbove, best-asked, lower-first}
 use Rattle.request.proofs.FirstCome.{turn-orders, Turns, turn-cases, turn-again}
-use Rattle.controller.specs.Rules.{noRequest, asked, rankOfRequest, isCommand, held, kept, given, replacesHeld}
-use Rattle.controller.specs.Rules.{condition, conditionsFrom, isWait, candidates, localRequest, decided, k1Of}
+use Rattle.controller.specs.Rules.{noRequest, asked, k1Of, rankOfRequest, isCommand, condition, conditionsFrom, isWait}
+use Rattle.controller.specs.Rules.{candidates, localRequest, decided}
 use Rattle.controller.specs.Step.{protection, waitOf, moved}
 use Rattle.controller.specs.Run.{Input, stepBy, conditionsIn, candidatesIn, acceptedIn}
 use Rattle.controller.specs.Asking.{OfKind, asks}
 use Rattle.controller.specs.declared.Controller.{Controller}
 use Rattle.controller.specs.declared.Outcome.{Outcome}
-use Rattle.controller.proofs.Apart.{none-rank, other-rank, command-kind, wait-kind, no-command, no-wait, own-channel}
+use Rattle.controller.proofs.Apart.{none-rank, other-rank, wait-kind, no-command, no-wait, own-channel}
 use Rattle.controller.proofs.Candidates.{candidate-split, candidate-one}
 use Rattle.controller.proofs.Sections.{some-section, section-one}
 use Rattle.controller.proofs.Inputs.{WellFormed, well-formed}
+use Rattle.controller.proofs.Sending.{stands-kind}
 use Rattle.controller.proofs.Keeping.{Kept, Sent, k1-back, not-refused, step-keeps}
 
 module _ (mask protect : ℕ) (working : List ℕ) (command wait : Request) (commands : OfKind isCommand command)
@@ -104,10 +105,13 @@ module _ (s : Controller) (i : Input) (goes : stepBy s i .refusal ≡ 0) where
   abbrev nearBy : Request → Request
   nearBy sent = best (byTurn rankOf sent) noRequest (candidatesIn s i)
 
-  number : length (conditionsIn s i) ≡ s .n + 1
-  number =
+  well : WellFormed s (conditionsIn s i) (i .command) (i .channel)
+  well =
       well-formed s (conditionsIn s i) (i .command) (i .channel)
-      (not-refused s (i .k1) (i .k2) (i .conditions) (i .command) (i .channel) goes .0) .number
+      (not-refused s (i .k1) (i .k2) (i .conditions) (i .command) (i .channel) goes .0)
+
+  number : length (conditionsIn s i) ≡ s .n + 1
+  number = well .number
 
   -- what a step sends, by what it has accepted and by its candidates
   pub decides : stepBy s i .k1 ≡ k1Of (decided (acceptedIn s i) (nearBy last))
@@ -123,8 +127,7 @@ module _ (s : Controller) (i : Input) (goes : stepBy s i .refusal ≡ 0) where
         ap nearBy sent
         ∙ subst (λ (r : Request). nearBy r ≡ r) is
         (local-stays (s .mask) (protection (conditionsIn s i)) (drop 1 (conditionsIn s i)) _ _
-        (command-kind (replacesHeld (kept (i .command) (held last)) (given (i .command) (i .channel))) (i .command)
-        (i .channel) last)
+        (stands-kind s (conditionsIn s i) (i .command) (i .channel) well)
         (wait-kind (waitOf s last (i .command)) last) c (asking-within (s .mask) c all-sections ranked) ranked
         (λ h. other (h ∙ ap rankOfRequest is)) none-above)
       where
@@ -175,18 +178,13 @@ module _ (s : Controller) (i j : Input) (c : ℕ) where
       mask : before .controller .mask ≡ s .mask
       mask = kept-by .0 .priorities
 
-      well : WellFormed s (conditionsIn s i) (i .command) (i .channel)
-      well =
-          well-formed s (conditionsIn s i) (i .command) (i .channel)
-          (not-refused s (i .k1) (i .k2) (i .conditions) (i .command) (i .channel) goes .0)
-
       -- its channel has room in a K1
       room : asks-for .channel ≤ 14
       room =
           let own = own-channel (s .mask) c (getD (conditionsIn s i) c 0) some in
           let within = asking-within (s .mask) c (conditionsIn s i) some in
-          let number = well .number in
-          let bounds = fit-bounds (s .n) (well .fits) .1 in
+          let number = well s i goes .number in
+          let bounds = fit-bounds (s .n) (well s i goes .fits) .1 in
           omega arith
 
       last-sent : asked (before .controller .sent) ≡ asks-for

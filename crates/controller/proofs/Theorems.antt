@@ -1,6 +1,6 @@
 -- The front door: what is proved of the controller, each theorem in full with the line that cites its proof.
 use mathlib.Core.Path.{_≡_, refl}
-use mathlib.Core.Bool.{true, false}
+use mathlib.Core.Bool.{Bool, true, false}
 use mathlib.Core.List.{List, _∷_}
 use mathlib.Core.Logic.{_↔_, _⊎_}
 use Prim.Native.Nat.{ℕ, _+_, _<_, _≤_}
@@ -14,12 +14,13 @@ use Rattle.pair.specs.Request.{listed, carries, rankIn, rankOf}
 use Rattle.pair.specs.Marks.{lineBits, finding, usable, alarm, mark}
 use Rattle.request.specs.Order.{byRank, byTurn, best, OneOf}
 use Rattle.request.specs.declared.Request.{Request}
-use Rattle.controller.specs.Settings.{makingCase, making}
-use Rattle.controller.specs.Rules.{reverse, noRequest, asked, rankOfRequest, accepting, condition, candidates, localRequest}
-use Rattle.controller.specs.Rules.{decided, k1Of}
+use Rattle.controller.specs.Settings.{noneHeld, makingCase, making}
+use Rattle.controller.specs.Rules.{reverse, noRequest, asked, k1Of, rankOfRequest, accepting, heldBy, kept, given}
+use Rattle.controller.specs.Rules.{replacesHeld, inForce, condition, candidates, localRequest, decided, heldAfter}
 use Rattle.controller.specs.Refusals.{acceptable, conditionsFit, stepFaults, refusal}
 use Rattle.controller.specs.Step.{protection, refusedStep, moved, step}
-use Rattle.controller.specs.Run.{Input, inputFits, stepBy, conditionsIn, candidatesIn, acceptedIn, notRefused, run}
+use Rattle.controller.specs.Run.{Input, inputFits, stepBy, conditionsIn, candidatesIn, acceptedIn, leavesHeld, holds}
+use Rattle.controller.specs.Run.{notRefused, run}
 use Rattle.controller.specs.Sequences.{isRight, sequences}
 use Rattle.controller.specs.declared.Controller.{Controller}
 use Rattle.controller.specs.declared.Made.the-variants as made
@@ -29,6 +30,7 @@ use Rattle.controller.proofs.Inputs.{faults-counted}
 use Rattle.controller.proofs.Alarm.{alarm-step}
 use Rattle.controller.proofs.Keeping.{step-refused, step-keeps, made-acceptable, made-run-unrefused}
 use Rattle.controller.proofs.Staying.{decides, stays}
+use Rattle.controller.proofs.Remembering.{held-is, held-runs}
 use Rattle.controller.proofs.Controller.fresh.Kinds as fresh-kinds
 use Rattle.controller.proofs.Controller.fresh.Reads as fresh-fn
 use Rattle.controller.proofs.Controller.fresh.Statement as fresh-statement
@@ -121,7 +123,8 @@ alarm-right : (s : Controller) (command c k1 k2 j1 j2 x : ℕ) (working : List �
 alarm-right = alarm-step
 
 -- A fresh record is acceptable: it meets none of refusal 3.
-fresh-accepted : (n mask w : ℕ) (s : Controller) → makingCase (making n mask w) ≡ made.Fresh s → acceptable s ≡ true
+fresh-accepted : (n : ℕ) (hold : Bool) (mask w : ℕ) (s : Controller) → makingCase (making n hold mask w) ≡ made.Fresh s
+    → acceptable s ≡ true
 fresh-accepted = made-acceptable
 
 -- A step that is not refused keeps the settings and answers an acceptable record.
@@ -129,11 +132,12 @@ step-kept : (s : Controller) (k1 k2 : ℕ) (conditions : List ℕ) (command c : 
     let o = step s k1 k2 conditions command c in
     o .refusal ≡ 0
     → (o .controller .n ≡ s .n)
+    × (o .controller .hold ≡ s .hold)
     × (o .controller .mask ≡ s .mask)
     × (o .controller .w ≡ s .w)
     × (acceptable (o .controller) ≡ true)
 step-kept s k1 k2 conditions command c h =
-    let k = step-keeps s k1 k2 conditions command c h .0 in (k .sections, k .priorities, k .wait, k .accepts)
+    let k = step-keeps s k1 k2 conditions command c h .0 in (k .sections, k .setting, k .priorities, k .wait, k .accepts)
 
 -- What it sends is a usable pair for the same n, with line bits 000; and the K1 is the one that the record holds.
 sent-right : (s : Controller) (k1 k2 : ℕ) (conditions : List ℕ) (command c : ℕ) →
@@ -144,7 +148,7 @@ sent-right s k1 k2 conditions command c h =
     let k = step-keeps s k1 k2 conditions command c h .1 in (k .pair-usable, k .line, k .recorded)
 
 -- So no step of a run is refused, from a fresh record and with inputs that meet none of refusals 4 to 7.
-run-complete : (n mask w : ℕ) (s : Controller) → makingCase (making n mask w) ≡ made.Fresh s
+run-complete : (n : ℕ) (hold : Bool) (mask w : ℕ) (s : Controller) → makingCase (making n hold mask w) ≡ made.Fresh s
     → (inputs : List Input) → every (inputFits n) inputs ≡ true → every notRefused (run s inputs) ≡ true
 run-complete = made-run-unrefused
 
@@ -198,6 +202,20 @@ stays-right : (s : Controller) (i j : Input) (c : ℕ) →
     → next .k1 ≡ o .k1
 stays-right = stays
 
+-- With hold (02, g) a held command stays in the record until a clear or a command of higher rank: in every step of a run whose
+-- inputs are neither, whatever else they are, refused steps included, the answered record holds it.
+held-stays : (inputs : List Input) (s : Controller) → s .hold ≡ true → (s .held ≡ noneHeld → ⊥)
+    → every (leavesHeld (asked (s .held))) inputs ≡ true → every (holds (s .held)) (run s inputs) ≡ true
+held-stays = held-runs
+
+-- What a step that is not refused leaves held: with hold the command that was held, none after a clear, or a new one that
+-- replaced it; without hold none, since the K1 last sent tells it.
+held-afterwards : (s : Controller) (i : Input) → stepBy s i .refusal ≡ 0 →
+    let prior = kept (i .command) (heldBy (s .hold) (s .held) (asked (s .sent))) in
+    let new = given (i .command) (i .channel) in
+    stepBy s i .controller .held ≡ heldAfter (s .hold) (inForce (replacesHeld prior new) prior new)
+held-afterwards = held-is
+
 -- Between the ends nobody stays: of two requests of equal rank the accepted one wins by a lower channel, and the local one
 -- otherwise, whatever was last sent.
 ends-right : (far near : Request) → 0 < rankOfRequest far → rankOfRequest far ≡ rankOfRequest near
@@ -212,7 +230,7 @@ reverse-right = reverse-loses
 none-right : (near : Request) → decided noRequest near ≡ near
 none-right = none-loses
 
--- P1 to P13: every value that the paper gives.
+-- P1 to P13, without hold: every value that the paper gives.
 sequences-right : every isRight sequences ≡ true
 unfolding step moved refusal conditionsFit acceptable localRequest accepting best finding usable alarm mark rankOf rankIn carries listed
 sequences-right = refl

@@ -1,4 +1,4 @@
--- Refusals 1 to 7 of a step (01, 'Numbered refusals').
+-- Refusals 1 to 7 of a step (01, 'Numbered refusals'; 02, g).
 use mathlib.Core.Bool.{Bool, true, not, _&&_, _||_}
 use mathlib.Core.List.{List, [], _∷_, _++_}
 use Prim.Native.Nat.{ℕ, _+_}
@@ -8,8 +8,8 @@ use Rattle.basics.specs.Choice.{if_then_else_}
 use Rattle.basics.specs.First.{Check, _when_, firstOf}
 use Rattle.pair.specs.Request.{failHighCode, failLowCode, degradeHighCode, degradeLowCode, requests, carries}
 use Rattle.pair.specs.Marks.{codeOf, channelOf, usable}
-use Rattle.controller.specs.Settings.{high, settingsFaults}
-use Rattle.controller.specs.Rules.{isWait}
+use Rattle.controller.specs.Settings.{high, noneHeld, settingsFaults}
+use Rattle.controller.specs.Rules.{isCommand, isWait}
 use Rattle.controller.specs.declared.Controller.{Controller}
 
 -- a fail or degrade code of the other priority
@@ -26,13 +26,21 @@ againstMask mask code c = leb 1 c && otherPriority (high mask c) code
 abbrev pub waitFits : ℕ → ℕ → ℕ → Bool
 waitFits code w left = if isWait code then leb 1 left && leb left w else eqb left 0
 
--- the accepted pair is usable, the K1 last sent is in the table for n and coded by the mask, and the wait fits it
+-- held is none or, with hold alone, a command of the table for n: LO 0, FS 1..n or MS 1..n
+abbrev pub heldFits : ℕ → Bool → ℕ → Bool
+heldFits n hold held =
+    eqb held noneHeld
+    || hold && isCommand (codeOf held) && carries requests n (codeOf held) (channelOf held)
+
+-- the accepted pair is usable, the K1 last sent is in the table for n and coded by the mask, the wait fits it, and the held
+-- command fits the settings
 unfoldable pub acceptable : Controller → Bool
 acceptable s =
     usable (s .n) (s .k1) (s .k2)
     && carries requests (s .n) (codeOf (s .sent)) (channelOf (s .sent))
     && not (againstMask (s .mask) (codeOf (s .sent)) (channelOf (s .sent)))
     && waitFits (codeOf (s .sent)) (s .w) (s .left)
+    && heldFits (s .n) (s .hold) (s .held)
 
 -- no condition is above 2
 unfoldable pub conditionsFit : List ℕ → Bool

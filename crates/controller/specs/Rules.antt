@@ -1,4 +1,5 @@
--- The seven rules of one step (01, 'One step'), in the paper's order. The ranks are those of the table of requests.
+-- The seven rules of one step (01, 'One step'; 02, c, d and g), in the paper's order. The ranks are those of the table of
+-- requests.
 use mathlib.Core.Bool.{Bool, _&&_, _||_}
 use mathlib.Core.List.{List, [], _∷_, _++_}
 use Prim.Native.Nat.{ℕ, suc, _+_, _*_}
@@ -7,10 +8,10 @@ use Rattle.basics.specs.Choice.{if_then_else_}
 use Rattle.pair.specs.Request.{lockoutCode, forcedCode, failHighCode, failLowCode, degradeHighCode, degradeLowCode}
 use Rattle.pair.specs.Request.{manualCode, waitCode, reverseCode, nothingCode, rankOf}
 use Rattle.pair.specs.Marks.{codeOf, channelOf, bridgedOf, usable, mark}
-use Rattle.request.specs.Order.{byRank, byTurn, best}
+use Rattle.request.specs.Order.{same, byRank, byTurn, best}
 use Rattle.request.specs.Command.{replaces}
 use Rattle.request.specs.declared.Request.{Request}
-use Rattle.controller.specs.Settings.{high, idleK1, idleK2}
+use Rattle.controller.specs.Settings.{high, idleK1, idleK2, noneHeld}
 use Rattle.controller.specs.declared.Controller.{Controller}
 use Rattle.controller.specs.declared.Accepted.{Accepted}
 
@@ -37,9 +38,12 @@ reverse c = request reverseCode c
 abbrev pub noRequest : Request
 noRequest = request nothingCode 0
 
--- what a K1 asks for
+-- what a K1 asks for, and the K1 that asks for it
 abbrev pub asked : ℕ → Request
 asked k1 = request (codeOf k1) (channelOf k1)
+
+abbrev pub k1Of : Request → ℕ
+k1Of r = r .code * 16 + r .channel
 
 abbrev pub rankOfRequest : Request → ℕ
 rankOfRequest r = rankOf (r .code) (r .channel)
@@ -56,19 +60,23 @@ accepting s failed k1 k2 =
     else if usable (s .n) k1 k2 then accepted k1 k2 0
     else accepted (s .k1) (s .k2) (mark (s .n) k1 k2)
 
--- 2. Command. LO, FS and MS are commands; the one that is held is read off the K1 last sent.
+-- 2. Command. LO, FS and MS are commands. The one that is held is read off the K1 last sent;
 abbrev pub isCommand : ℕ → Bool
 isCommand code = eqb code lockoutCode || eqb code forcedCode || eqb code manualCode
 
 abbrev pub held : Request → Request
 held last = if isCommand (last .code) then last else noRequest
 
+-- with hold it is the one in the record (02, g), and what was last sent plays no part
+abbrev pub heldBy : Bool → ℕ → Request → Request
+heldBy hold k1 last = if hold then asked k1 else held last
+
 abbrev pub isClear : ℕ → Bool
 isClear command = eqb command 1
 
--- and is gone once clear is given
+-- it is gone once clear is given
 abbrev pub kept : ℕ → Request → Request
-kept command hold = if isClear command then noRequest else hold
+kept command prior = if isClear command then noRequest else prior
 
 -- a new command: 2 LO, 3 FS c, 4 MS c
 abbrev pub given : ℕ → ℕ → Request
@@ -80,10 +88,10 @@ given command c =
 
 -- whether the new one replaces the held one; the one of the two that is then in force
 abbrev pub replacesHeld : Request → Request → Bool
-replacesHeld hold new = replaces (rankOfRequest hold) (rankOfRequest new)
+replacesHeld prior new = replaces (rankOfRequest prior) (rankOfRequest new)
 
 abbrev pub inForce : Bool → Request → Request → Request
-inForce replaced hold new = if replaced then new else hold
+inForce replaced prior new = if replaced then new else prior
 
 -- 3. Local request. What the condition of a section asks for, by its priority.
 abbrev pub failCode : Bool → ℕ
@@ -131,9 +139,17 @@ localRequest mask last protection working command wait =
 abbrev pub decided : Request → Request → Request
 decided far near = if byRank rankOf far near then reverse (far .channel) else near
 
--- 5. After. An unsent command is forgotten by itself, since the next step reads the held one off the K1 of this one; whether
--- a new command was sent, by `same` code and channel, decides its fate (request, Order and Command). The wait goes on with
--- WTR alone.
+-- 5. After. An unsent command is forgotten by itself, since the next step reads the held one off the K1 of this one; with hold
+-- the command in force is kept in the record, sent or not
+abbrev pub heldAfter : Bool → Request → ℕ
+heldAfter hold command = if hold then k1Of command else noneHeld
+
+-- a new command that replaced the held one was taken if it is sent, by `same` code and channel; with hold it was anyway. From
+-- that its fate follows (request, Command).
+abbrev pub counts : Bool → Request → Request → Bool
+counts hold sent new = hold || same sent new
+
+-- the wait goes on with WTR alone
 abbrev pub leftAfter : Request → ℕ → ℕ
 leftAfter sent now = if isWait (sent .code) then now else 0
 
@@ -142,9 +158,6 @@ leftAfter sent now = if isWait (sent .code) then now else 0
 abbrev pub keepsBridge : Request → Bool
 keepsBridge sent = eqb (sent .code) nothingCode
 
--- the bytes that are sent; bit 5 is 1, the line bits are 000
-abbrev pub k1Of : Request → ℕ
-k1Of sent = sent .code * 16 + sent .channel
-
+-- the K2 that is sent: bit 5 is 1, the line bits are 000
 abbrev pub k2Of : ℕ → ℕ
 k2Of bridged = bridged * 16 + 0b1000

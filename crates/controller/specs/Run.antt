@@ -1,12 +1,13 @@
 -- A run: steps one after the other, each with the record that the step before it answered.
-use mathlib.Core.Bool.{Bool, _&&_}
+use mathlib.Core.Bool.{Bool, not, _&&_}
 use mathlib.Core.List.{List, [], _∷_}
 use Prim.Native.Nat.{ℕ, _+_}
 use lib.Dec.{leb, eqb}
 use lib.ListN.{length, drop}
 use Rattle.pair.specs.Marks.{alarm}
 use Rattle.request.specs.declared.Request.{Request}
-use Rattle.controller.specs.Rules.{asked, accepting, held, kept, given, replacesHeld, inForce, waiting, candidates}
+use Rattle.controller.specs.Rules.{asked, rankOfRequest, accepting, heldBy, isClear, kept, given, replacesHeld, inForce}
+use Rattle.controller.specs.Rules.{waiting, candidates}
 use Rattle.controller.specs.Refusals.{conditionsFit, channelFits}
 use Rattle.controller.specs.Step.{protection, waitOf, actsOn, step}
 use Rattle.controller.specs.declared.Controller.{Controller}
@@ -39,13 +40,22 @@ conditionsIn s i = actsOn (alarm (s .n) (i .k1) (i .k2)) (i .conditions)
 abbrev pub candidatesIn : Controller → Input → List Request
 candidatesIn s i =
     let last = asked (s .sent) in
-    let hold = kept (i .command) (held last) in
+    let prior = kept (i .command) (heldBy (s .hold) (s .held) last) in
     let new = given (i .command) (i .channel) in
     candidates (s .mask) (protection (conditionsIn s i)) (drop 1 (conditionsIn s i))
-    (inForce (replacesHeld hold new) hold new) (waiting (waitOf s last (i .command)) last)
+    (inForce (replacesHeld prior new) prior new) (waiting (waitOf s last (i .command)) last)
 
 abbrev pub acceptedIn : Controller → Input → Request
 acceptedIn s i = accepting s (eqb (protection (conditionsIn s i)) 2) (i .k1) (i .k2) .request
+
+-- neither a clear nor a command of higher rank than the held one is given (02, g)
+abbrev pub leavesHeld : Request → Input → Bool
+leavesHeld prior i =
+    not (isClear (i .command)) && leb (rankOfRequest (given (i .command) (i .channel))) (rankOfRequest prior)
+
+-- the answered record holds this command
+abbrev pub holds : ℕ → Outcome → Bool
+holds k1 o = eqb (o .controller .held) k1
 
 abbrev pub notRefused : Outcome → Bool
 notRefused o = eqb (o .refusal) 0

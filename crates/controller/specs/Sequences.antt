@@ -1,6 +1,6 @@
--- The sequences P1 to P13 of document 01, P13 as 02, d has it: n = 2, mask 0, W = 3, conditions good, no command unless
--- given.
-use mathlib.Core.Bool.{Bool, _&&_}
+-- The sequences P1 to P13 of document 01, P13 as 02, d has it: n = 2, without hold, mask 0, W = 3, conditions good, no command
+-- unless given.
+use mathlib.Core.Bool.{Bool, false, _&&_}
 use mathlib.Core.List.{List, [], _∷_}
 use Prim.Native.Nat.{ℕ}
 use lib.Dec.{eqb}
@@ -42,7 +42,7 @@ abbrev failed12 : List ℕ
 failed12 = 0 ∷ 2 ∷ 2 ∷ []
 
 abbrev new : Controller
-new = fresh 2 0 3
+new = fresh 2 false 0 3
 
 abbrev receives : Controller → ℕ → ℕ → List ℕ → Outcome
 receives s k1 k2 conditions = step s k1 k2 conditions 0 0
@@ -89,14 +89,16 @@ p11 = receives new 0x00 0x08 failed12
 
 -- with mask 2
 abbrev p11′ : Outcome
-p11′ = receives (fresh 2 2 3) 0x00 0x08 failed12
+p11′ = receives (fresh 2 false 2 3) 0x00 0x08 failed12
 
 abbrev p12 : Outcome
 p12 = receives (p2 .controller) 0x11 0x08 degraded2
 
 -- last sent C2, accepted 00 08
 abbrev p13 : Outcome
-p13 = receives (record { n = 2; mask = 0; w = 3; k1 = 0x00; k2 = 0x08; sent = 0xC2; left = 0 }) 0x00 0x08 failed12
+p13 =
+    receives (record { n = 2; hold = false; mask = 0; w = 3; k1 = 0x00; k2 = 0x08; sent = 0xC2; left = 0; held = 0x00 })
+    0x00 0x08 failed12
 
 -- a line of the table: a step, and every value that the paper gives of its answer
 infix 15 _answers_

@@ -1,5 +1,5 @@
--- Settings, and the fresh record (01, 'Settings' and 'One step').
-use mathlib.Core.Bool.{Bool, true}
+-- Settings, and the fresh record (01, 'Settings' and 'One step'; 02, g).
+use mathlib.Core.Bool.{Bool, true, false}
 use mathlib.Core.List.{List}
 use Prim.Native.Nat.{ℕ, _-_, _/_, _%_, _^_}
 use lib.Dec.{eqb}
@@ -21,8 +21,23 @@ idleK1 = 0x00
 abbrev pub idleK2 : ℕ
 idleK2 = 0x08
 
-abbrev pub fresh : ℕ → ℕ → ℕ → Controller
-fresh n mask w = record { n = n; mask = mask; w = w; k1 = idleK1; k2 = idleK2; sent = idleK1; left = 0 }
+-- the held command is kept as a K1; 00 stands for none
+abbrev pub noneHeld : ℕ
+noneHeld = 0x00
+
+abbrev pub fresh : ℕ → Bool → ℕ → ℕ → Controller
+fresh n hold mask w =
+    record {
+      n = n;
+      hold = hold;
+      mask = mask;
+      w = w;
+      k1 = idleK1;
+      k2 = idleK2;
+      sent = idleK1;
+      left = 0;
+      held = noneHeld;
+    }
 
 -- refusals 1 and 2
 abbrev pub settingsFaults : ℕ → ℕ → List Check
@@ -34,7 +49,7 @@ pub record Making : Type 0 where
   pub controller : Controller
 
 abbrev pub zeros : Controller
-zeros = record { n = 0; mask = 0; w = 0; k1 = 0; k2 = 0; sent = 0; left = 0 }
+zeros = record { n = 0; hold = false; mask = 0; w = 0; k1 = 0; k2 = 0; sent = 0; left = 0; held = 0 }
 
 abbrev pub makingTold : Made → Making
 makingTold (made.Fresh s) = record { refusal = 0; controller = s }
@@ -43,7 +58,7 @@ makingTold (made.Refused k) = record { refusal = k; controller = zeros }
 abbrev pub makingCase : Making → Made
 makingCase m = if eqb (m .refusal) 0 then made.Fresh (m .controller) else made.Refused (m .refusal)
 
-unfoldable pub making : ℕ → ℕ → ℕ → Making
-making n mask w =
-    if eqb (firstOf (settingsFaults n mask)) 0 then record { refusal = 0; controller = fresh n mask w }
+unfoldable pub making : ℕ → Bool → ℕ → ℕ → Making
+making n hold mask w =
+    if eqb (firstOf (settingsFaults n mask)) 0 then record { refusal = 0; controller = fresh n hold mask w }
     else record { refusal = firstOf (settingsFaults n mask); controller = zeros }

@@ -1,4 +1,5 @@
--- One step (01, 'One step'; 02, c): the refusals, then the seven rules.
+-- One step (01, 'One step'; 02, c and g): the refusals, then the seven rules. Three things look at the setting hold: where
+-- the held command is read from, what is held afterwards, and the fate of a command that was held but not sent.
 use mathlib.Core.Bool.{Bool}
 use mathlib.Core.List.{List, _∷_}
 use Prim.Native.Nat.{ℕ}
@@ -6,14 +7,13 @@ use lib.Dec.{eqb}
 use lib.ListN.{getD, drop}
 use Rattle.basics.specs.Choice.{if_then_else_}
 use Rattle.pair.specs.Marks.{alarm}
-use Rattle.request.specs.Order.{same}
 use Rattle.request.specs.Command.{fate}
 use Rattle.request.specs.Wait.{waitNow}
 use Rattle.request.specs.Bridge.{bridge, selector}
 use Rattle.request.specs.declared.Request.{Request}
-use Rattle.controller.specs.Rules.{asked, accepting, held, isClear, kept, given, replacesHeld, inForce}
+use Rattle.controller.specs.Rules.{asked, k1Of, accepting, heldBy, isClear, kept, given, replacesHeld, inForce}
 use Rattle.controller.specs.Rules.{isWait, entersWait, waiting, localRequest, decided}
-use Rattle.controller.specs.Rules.{leftAfter, keepsBridge, k1Of, k2Of}
+use Rattle.controller.specs.Rules.{heldAfter, counts, leftAfter, keepsBridge, k2Of}
 use Rattle.controller.specs.Refusals.{refusal}
 use Rattle.controller.specs.declared.Controller.{Controller}
 use Rattle.controller.specs.declared.Accepted.{Accepted}
@@ -32,20 +32,22 @@ protection conditions = getD conditions 0 0
 abbrev pub waitOf : Controller → Request → ℕ → ℕ
 waitOf s last command = waitNow (isClear command) (entersWait last) (isWait (last .code)) (s .w) (s .left)
 
--- what is answered once it is decided what is sent
-abbrev pub answering : Controller → Accepted → Request → ℕ → ℕ → Outcome
-answering s far sent now fateOfCommand =
+-- what is answered once it is decided what is sent; `stands` is the command in force
+abbrev pub answering : Controller → Accepted → Request → ℕ → Request → ℕ → Outcome
+answering s far sent now stands fateOfCommand =
     record {
       refusal = 0;
       controller =
           record {
             n = s .n;
+            hold = s .hold;
             mask = s .mask;
             w = s .w;
             k1 = far .k1;
             k2 = far .k2;
             sent = k1Of sent;
             left = leftAfter sent now;
+            held = heldAfter (s .hold) stands;
           };
       k1 = k1Of sent;
       k2 = k2Of (bridge (far .request .channel) (sent .channel) (keepsBridge sent));
@@ -61,13 +63,14 @@ moved s k1 k2 conditions command c =
     let protect = protection conditions in
     let last = asked (s .sent) in
     let far = accepting s (eqb protect 2) k1 k2 in
-    let hold = kept command (held last) in
+    let prior = kept command (heldBy (s .hold) (s .held) last) in
     let new = given command c in
-    let replaced = replacesHeld hold new in
+    let replaced = replacesHeld prior new in
+    let stands = inForce replaced prior new in
     let now = waitOf s last command in
-    let near = localRequest (s .mask) last protect (drop 1 conditions) (inForce replaced hold new) (waiting now last) in
+    let near = localRequest (s .mask) last protect (drop 1 conditions) stands (waiting now last) in
     let sent = decided (far .request) near in
-    answering s far sent now (fate command replaced (same sent new))
+    answering s far sent now stands (fate command replaced (counts (s .hold) sent new))
 
 -- what it acts on: the conditions as handed in or, where an alarm is received, with section 0 failed, whatever it was said
 -- to be (02, c)

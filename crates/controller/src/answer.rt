@@ -5,8 +5,10 @@ use crate::Outcome;
 use crate::acceptance::accepting;
 use crate::asked::asked;
 use crate::codes::NOTHING;
+use crate::command::counts;
 use crate::command::given;
-use crate::command::held;
+use crate::command::held_after;
+use crate::command::held_by;
 use crate::command::in_force;
 use crate::command::kept;
 use crate::command::replaces_held;
@@ -28,7 +30,6 @@ ghost use Rattle.controller.specs.Step.{refusedStep, answering, moved, a
 ghost use Rattle.pair.specs.Marks.{alarm};
 ghost use Rattle.pair.specs.Request.{requests};
 ghost use Rattle.pair.specs.Table.{numberFor};
-ghost use Rattle.request.specs.Order.{same};
 ghost use mathlib.Core.Path.{_≡_};
 
 pub(crate) fn refused_step(k: u8, s: Controller) -> Outcome
@@ -46,12 +47,6 @@ pub(crate) fn refused_step(k: u8, s: Controller) -> Outcome
     }
 }
 
-fn same(a: Request, b: Request) -> bool
-    ensures { λ r. ⌜ r ≡ same a b ⌝ }
-{
-    (a.code == b.code) & (a.channel == b.channel)
-}
-
 // Where NR is sent (Table 7-4 as corrected in 003).
 fn keeps_bridge(sent: Request) -> bool
     ensures { λ r. ⌜ r ≡ keepsBridge sent ⌝ }
@@ -59,24 +54,35 @@ fn keeps_bridge(sent: Request) -> bool
     sent.code == NOTHING
 }
 
-fn answering(s: Controller, far: Accepted, sent: Request, wait: u16, fate: u8) -> Outcome
-    requires { ⌜ (sent .code ≤ 15) × (sent .channel ≤ 15) × (far .request .channel ≤ 15) ⌝ }
-    ensures { λ r. ⌜ r ≡ answering s far sent wait fate ⌝ }
+// `stands` is the command in force.
+fn answering(
+    s: Controller,
+    far: Accepted,
+    sent: Request,
+    wait: u16,
+    stands: Request,
+    fate: u8,
+) -> Outcome
+    requires { ⌜ (sent .code ≤ 15) × (sent .channel ≤ 15) × (far .request .channel ≤ 15) × (stands .code ≤ 15) × (stands .channel ≤ 15) ⌝ }
+    ensures { λ r. ⌜ r ≡ answering s far sent wait stands fate ⌝ }
 {
     let heard = far.request;
     let bridged = bridge(heard.channel, sent.channel, keeps_bridge(sent));
     let selected = selector(sent.channel, far.bridged);
     let left = left_after(sent, wait);
+    let held = held_after(s.hold, stands);
     let k1 = sent.code * 16 + sent.channel;
     let k2 = bridged * 16 + 0b1000;
     let controller = Controller {
         n: s.n,
+        hold: s.hold,
         mask: s.mask,
         w: s.w,
         k1: far.k1,
         k2: far.k2,
         sent: k1,
         left,
+        held,
     };
     Outcome {
         refusal: 0,
@@ -107,15 +113,15 @@ pub(crate) fn moved(
     let k1_sent = s.sent;
     let last = asked(k1_sent);
     let far = accepting(s, protect == 2, received, k1, k2);
-    let hold = kept(command, held(last));
+    let prior = kept(command, held_by(s.hold, s.held, last));
     let new = given(command, c);
-    let replaced = replaces_held(hold, new);
-    let in_force = in_force(replaced, hold, new);
+    let replaced = replaces_held(prior, new);
+    let stands = in_force(replaced, prior, new);
     let now = wait_of(s, last, command);
     let wait = waiting(now, last);
-    let near = local_request(s.mask, last, protect, conditions, in_force, wait);
+    let near = local_request(s.mask, last, protect, conditions, stands, wait);
     let heard = far.request;
     let sent = decided(heard, near);
-    let fate = fate(command, replaced, same(sent, new));
-    answering(s, far, sent, now, fate)
+    let fate = fate(command, replaced, counts(s.hold, sent, new));
+    answering(s, far, sent, now, stands, fate)
 }

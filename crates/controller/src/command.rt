@@ -1,4 +1,6 @@
-// The held command and a new one (01, 'One step', rule 2).
+// The held command and a new one (01, 'One step', rules 2 and 5; 02, g).
+use crate::Controller;
+use crate::asked::asked;
 use crate::asked::rank_of;
 use crate::codes::FORCED_SWITCH;
 use crate::codes::LOCKOUT;
@@ -6,10 +8,11 @@ use crate::codes::MANUAL_SWITCH;
 use crate::codes::NO_REQUEST;
 use request::Request;
 use request::replaces;
-ghost use Rattle.controller.specs.Rules.{isCommand, held, kept, given, replacesHeld, inForce};
+ghost use Prim.Native.Nat.{_≤_};
+ghost use Rattle.controller.specs.Rules.{isCommand, held, heldBy, kept, given, replacesHeld, inForce, heldAfter, counts};
 ghost use mathlib.Core.Path.{_≡_};
 
-fn is_command(code: u8) -> bool
+pub(crate) fn is_command(code: u8) -> bool
     ensures { λ r. ⌜ r ≡ isCommand code ⌝ }
 {
     (code == LOCKOUT) | (code == FORCED_SWITCH) | (code == MANUAL_SWITCH)
@@ -25,10 +28,16 @@ pub fn held(last: Request) -> Request
     }
 }
 
-pub(crate) fn kept(command: u8, hold: Request) -> Request
-    ensures { λ r. ⌜ r ≡ kept command hold ⌝ }
+pub(crate) fn held_by(hold: bool, k1: u8, last: Request) -> Request
+    ensures { λ r. ⌜ r ≡ heldBy hold k1 last ⌝ }
 {
-    if command == 1 { NO_REQUEST } else { hold }
+    if hold { asked(k1) } else { held(last) }
+}
+
+pub(crate) fn kept(command: u8, prior: Request) -> Request
+    ensures { λ r. ⌜ r ≡ kept command prior ⌝ }
+{
+    if command == 1 { NO_REQUEST } else { prior }
 }
 
 pub(crate) fn given(command: u8, c: u8) -> Request
@@ -55,14 +64,31 @@ pub(crate) fn given(command: u8, c: u8) -> Request
     NO_REQUEST
 }
 
-pub(crate) fn replaces_held(hold: Request, new: Request) -> bool
-    ensures { λ r. ⌜ r ≡ replacesHeld hold new ⌝ }
+pub(crate) fn replaces_held(prior: Request, new: Request) -> bool
+    ensures { λ r. ⌜ r ≡ replacesHeld prior new ⌝ }
 {
-    replaces(rank_of(hold), rank_of(new))
+    replaces(rank_of(prior), rank_of(new))
 }
 
-pub(crate) fn in_force(replaced: bool, hold: Request, new: Request) -> Request
-    ensures { λ r. ⌜ r ≡ inForce replaced hold new ⌝ }
+pub(crate) fn in_force(replaced: bool, prior: Request, new: Request) -> Request
+    ensures { λ r. ⌜ r ≡ inForce replaced prior new ⌝ }
 {
-    if replaced { new } else { hold }
+    if replaced { new } else { prior }
+}
+
+pub(crate) fn held_after(hold: bool, command: Request) -> u8
+    requires { ⌜ (command .code ≤ 15) × (command .channel ≤ 15) ⌝ }
+    ensures { λ r. ⌜ r ≡ heldAfter hold command ⌝ }
+{
+    if hold {
+        command.code * 16 + command.channel
+    } else {
+        Controller::NONE_HELD
+    }
+}
+
+pub(crate) fn counts(hold: bool, sent: Request, new: Request) -> bool
+    ensures { λ r. ⌜ r ≡ counts hold sent new ⌝ }
+{
+    hold | ((sent.code == new.code) & (sent.channel == new.channel))
 }

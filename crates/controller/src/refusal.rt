@@ -1,16 +1,17 @@
-// Refusals 1 to 7 (01, 'Numbered refusals').
+// Refusals 1 to 7 (01, 'Numbered refusals'; 02, g).
 use crate::Controller;
 use crate::codes::DEGRADE_HIGH;
 use crate::codes::DEGRADE_LOW;
 use crate::codes::FAIL_HIGH;
 use crate::codes::FAIL_LOW;
+use crate::command::is_command;
 use crate::section::high;
 use crate::wait::is_wait;
 use basics::settings::settings_refusal;
 use pair::mark::second_usable;
 use pair::table::usable_in;
 ghost use Rattle.basics.specs.Settings.{sectionsFit};
-ghost use Rattle.controller.specs.Refusals.{otherPriority, againstMask, waitFits, acceptable};
+ghost use Rattle.controller.specs.Refusals.{otherPriority, againstMask, waitFits, heldFits, acceptable};
 ghost use Rattle.controller.specs.Refusals.{conditionsFit, channelFits, refusal};
 ghost use Rattle.pair.specs.Request.{requests};
 ghost use Rattle.pair.specs.Table.{numberFor};
@@ -43,9 +44,20 @@ fn wait_fits(code: u8, w: u16, left: u16) -> bool
     }
 }
 
-// `accepted` and `sent` are the numbers of the accepted K1 and of the one last sent.
-fn acceptable(s: Controller, accepted: u16, sent: u16) -> bool
-    requires { ⌜ (sectionsFit (s .n) ≡ true) × (accepted ≡ numberFor requests (s .k1)) × (sent ≡ numberFor requests (s .sent)) ⌝ }
+// `number` is that of the held command, as a K1.
+fn held_fits(n: u8, hold: bool, held: u8, number: u16) -> bool
+    requires { ⌜ (sectionsFit n ≡ true) × (number ≡ numberFor requests held) ⌝ }
+    ensures { λ r. ⌜ r ≡ heldFits n hold held ⌝ }
+{
+    if held == Controller::NONE_HELD {
+        return true;
+    }
+    hold & is_command(held / 16) & usable_in(number, n)
+}
+
+// `accepted`, `sent` and `held` are the numbers of the accepted K1, of the one last sent, and of the held command.
+fn acceptable(s: Controller, accepted: u16, sent: u16, held: u16) -> bool
+    requires { ⌜ (sectionsFit (s .n) ≡ true) × (accepted ≡ numberFor requests (s .k1)) × (sent ≡ numberFor requests (s .sent)) × (held ≡ numberFor requests (s .held)) ⌝ }
     ensures { λ r. ⌜ r ≡ acceptable s ⌝ }
 {
     let code = s.sent / 16;
@@ -54,7 +66,8 @@ fn acceptable(s: Controller, accepted: u16, sent: u16) -> bool
     let in_table = usable_in(sent, s.n);
     let against = against_mask(s.mask, code, channel);
     let wait_good = wait_fits(code, s.w, s.left);
-    pair_usable & in_table & !against & wait_good
+    let held_good = held_fits(s.n, s.hold, s.held, held);
+    pair_usable & in_table & !against & wait_good & held_good
 }
 
 fn conditions_fit(conditions: &[u8]) -> bool
@@ -84,11 +97,12 @@ pub(crate) fn refusal_of(
     s: Controller,
     accepted: u16,
     sent: u16,
+    held: u16,
     conditions: &[u8],
     command: u8,
     c: u8,
 ) -> u8
-    requires { ⌜ (accepted ≡ numberFor requests (s .k1)) × (sent ≡ numberFor requests (s .sent)) ⌝ }
+    requires { ⌜ (accepted ≡ numberFor requests (s .k1)) × (sent ≡ numberFor requests (s .sent)) × (held ≡ numberFor requests (s .held)) ⌝ }
     ensures { λ r. ⌜ r ≡ refusal s (now (conditions .entry)) command c ⌝ }
 {
     let n = s.n;
@@ -96,7 +110,7 @@ pub(crate) fn refusal_of(
     if settings != 0 {
         return settings;
     }
-    let record_good = acceptable(s, accepted, sent);
+    let record_good = acceptable(s, accepted, sent, held);
     if !record_good {
         return 3;
     }

@@ -13,14 +13,14 @@ returns : tie.Need-returns
 unfolding making
 returns c =
     let a = c .before .before .args in
-    made-by (a .n) (a .mask) (a .w)
+    made-by (a .n) (a .hold) (a .mask) (a .w)
     (simp (← c .before .settings-refusal .ensures, eq-eqb (c .before .settings-refusal .result) 0 (c .if1 .taken)))
 
 returns-2 : tie.Need-returns-2
 unfolding making
 returns-2 c =
     let a = c .before .before .args in
-    made-by (a .n) (a .mask) (a .w)
+    made-by (a .n) (a .hold) (a .mask) (a .w)
     (simp (← c .before .settings-refusal .ensures, ne-eqb (c .before .settings-refusal .result) 0 (c .if1 .left)))
 
 pub fresh-spec : {M : Type 1} → statement M

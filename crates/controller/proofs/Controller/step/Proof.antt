@@ -32,6 +32,15 @@ mul-sent c = search needs
 array-read-sent : tie.Need-array-read-sent
 array-read-sent c = search needs
 
+cast-held : tie.Need-cast-held
+cast-held c = search needs
+
+mul-held : tie.Need-mul-held
+mul-held c = search needs
+
+array-read-held : tie.Need-array-read-held
+array-read-held c = search needs
+
 mul-received : tie.Need-mul-received
 mul-received c = search needs
 
@@ -43,7 +52,11 @@ looked c k1 below = rw (c .numbers .ensures) (number-at requests k1 below)
 
 refusal-of-requires : tie.Need-refusal-of-requires
 refusal-of-requires c κs =
-    let s = c .before .before .args .self in (looked c (s .k1) (search needs), looked c (s .sent) (search needs))
+    let s = c .before .before .args .self in (
+      looked c (s .k1) (search needs),
+      looked c (s .sent) (search needs),
+      looked c (s .held) (search needs),
+    )
 
 moved-requires : tie.Need-moved-requires
 moved-requires c κs =
@@ -76,6 +89,9 @@ step-spec =
     cast-sent
     mul-sent
     array-read-sent
+    cast-held
+    mul-held
+    array-read-held
     mul-received
     array-read-received
     refusal-of-requires

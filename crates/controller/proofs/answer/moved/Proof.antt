@@ -9,14 +9,14 @@ use Rattle.basics.proofs.Fitting.{fit-bounds}
 use Rattle.pair.specs.Marks.{alarm}
 use Rattle.pair.proofs.Coding.{alarm-test}
 use Rattle.request.specs.declared.Request.{Request}
-use Rattle.controller.specs.Rules.{asked, accepting, held, kept, given, replacesHeld, inForce, waiting, localRequest}
+use Rattle.controller.specs.Rules.{asked, accepting, heldBy, kept, given, replacesHeld, inForce, waiting, localRequest}
 use Rattle.controller.specs.Rules.{decided}
 use Rattle.controller.specs.Step.{protection, waitOf, moved, actsOn}
-use Rattle.controller.proofs.Apart.{command-kind, wait-kind}
+use Rattle.controller.proofs.Apart.{wait-kind}
 use Rattle.controller.proofs.Inputs.{WellFormed, well-formed}
 use Rattle.controller.proofs.Alarm.{acts-protection, acts-working, acts-unrefused}
 use Rattle.controller.proofs.Sendable.{sendable-room}
-use Rattle.controller.proofs.Sending.{sent-sendable, far-channel}
+use Rattle.controller.proofs.Sending.{stands-sendable, stands-kind, sent-sendable, far-channel}
 use borrow.Author.Needs.{needs}
 use Rattle.controller.proofs.answer.moved.Statement.{statement}
 use Rattle.controller.proofs.answer.moved.Tie as tie
@@ -45,27 +45,49 @@ abbrev sentBy : tie.After-decided → ℕ → List ℕ → Request
 sentBy c protect working =
     let a = c .before .before .before .before .before .before .before .before .before .before .before .before .before .before .before .before .args in
     let last = asked (a .s .sent) in
-    let hold = kept (a .command) (held last) in
+    let prior = kept (a .command) (heldBy (a .s .hold) (a .s .held) last) in
     let new = given (a .command) (a .c) in
     let wait = waiting (waitOf (a .s) last (a .command)) last in
     decided (accepting (a .s) (eqb protect 2) (a .k1) (a .k2) .request)
-    (localRequest (a .s .mask) last protect working (inForce (replacesHeld hold new) hold new) wait)
+    (localRequest (a .s .mask) last protect working (inForce (replacesHeld prior new) prior new) wait)
 
 abbrev sentOf : tie.After-decided → Request
 sentOf c =
     let acts = actsOf (c .before .before .before .before .before .before .before .before .before .before .before .before .before .before .before .before) in
     sentBy c (protection acts) (drop 1 acts)
 
--- whether the new command has replaced the held one
-weighed : (c : tie.After-in-force) →
+-- the held command, after a clear
+abbrev priorOf : tie.After-in-force → Request
+priorOf c =
     let a = c .before .before .before .before .before .before .before .before .before .before .before .args in
-    c .before .replaces-held .result ≡ replacesHeld (kept (a .command) (held (asked (a .s .sent)))) (given (a .command) (a .c))
+    kept (a .command) (heldBy (a .s .hold) (a .s .held) (asked (a .s .sent)))
+
+abbrev newOf : tie.After-in-force → Request
+newOf c =
+    let a = c .before .before .before .before .before .before .before .before .before .before .before .args in
+    given (a .command) (a .c)
+
+-- whether the new command has replaced it
+weighed : (c : tie.After-in-force) → c .before .replaces-held .result ≡ replacesHeld (priorOf c) (newOf c)
 weighed c =
     rw (
       c .before .replaces-held .ensures,
       c .before .before .given .ensures,
       c .before .before .before .kept .ensures,
-      c .before .before .before .before .held .ensures,
+      c .before .before .before .before .held-by .ensures,
+      c .before .before .before .before .before .before .asked .ensures,
+    )
+
+-- the command in force
+stands-is : (c : tie.After-in-force)
+    → c .in-force .result ≡ inForce (replacesHeld (priorOf c) (newOf c)) (priorOf c) (newOf c)
+stands-is c =
+    rw (
+      c .in-force .ensures,
+      weighed c,
+      c .before .before .given .ensures,
+      c .before .before .before .kept .ensures,
+      c .before .before .before .before .held-by .ensures,
       c .before .before .before .before .before .before .asked .ensures,
     )
 
@@ -81,11 +103,7 @@ sent-is c =
       near .local-request .ensures,
       near .before .waiting .ensures,
       near .before .before .wait-of .ensures,
-      stood .in-force .ensures,
-      weighed stood,
-      stood .before .before .given .ensures,
-      stood .before .before .before .kept .ensures,
-      stood .before .before .before .before .held .ensures,
+      stands-is stood,
       stood .before .before .before .before .before .accepting .ensures,
       stood .before .before .before .before .before .before .asked .ensures,
     ) in
@@ -110,8 +128,8 @@ accepting-requires : tie.Need-accepting-requires
 accepting-requires c κs =
     let start = c .before .before .before .before .before in (well start .fits, start .pre .1)
 
-held-requires : tie.Need-held-requires
-held-requires c κs = search needs
+held-by-requires : tie.Need-held-by-requires
+held-by-requires c κs = search needs
 
 kept-requires : tie.Need-kept-requires
 kept-requires c κs = search needs
@@ -140,12 +158,8 @@ local-request-requires c κs =
     let stood = c .before .before in (
       omega arith,
       omega arith,
-      rw (
-        stood .in-force .ensures,
-        stood .before .before .given .ensures,
-        stood .before .before .before .kept .ensures,
-        stood .before .before .before .before .held .ensures,
-      ) (command-kind (stood .before .replaces-held .result) (a .command) (a .c) (stood .before .before .before .before .before .before .asked .result)),
+      rw (stands-is stood)
+          (stands-kind (a .s) (actsOf start) (a .command) (a .c) (acts-well start)),
       rw (c .waiting .ensures)
           (wait-kind (c .before .wait-of .result) (stood .before .before .before .before .before .before .asked .result)),
     )
@@ -153,8 +167,8 @@ local-request-requires c κs =
 decided-requires : tie.Need-decided-requires
 decided-requires c κs = search needs
 
-same-requires : tie.Need-same-requires
-same-requires c κs = search needs
+counts-requires : tie.Need-counts-requires
+counts-requires c κs = search needs
 
 fate-requires : tie.Need-fate-requires
 fate-requires c κs = search needs
@@ -168,14 +182,20 @@ answering-requires c κs =
     let able = sent-sendable (a .s) acts (a .command) (a .c) (acts-well start) failed (a .k1) (a .k2) in
     let now = waitOf (a .s) (asked (a .s .sent)) (a .command) in
     let room = sendable-room (a .s .n) (a .s .mask) now (sentOf (c .before .before)) (well start .fits) able in
+    let stood = c .before .before .before .before .before .before .before in
+    let standing = stands-sendable (a .s) acts (a .command) (a .c) (acts-well start) in
+    let place =
+    sendable-room (a .s .n) (a .s .mask) now (inForce (replacesHeld (priorOf stood) (newOf stood)) (priorOf stood) (newOf stood))
+    (well start .fits) standing in
     let far = far-channel (a .s) acts (a .command) (a .c) (acts-well start) failed (a .k1) (a .k2) in
     let bounds = fit-bounds (a .s .n) (well start .fits) in
     rw (
       sent-is (c .before .before),
+      stands-is stood,
       c .before .before .before .before .before .before .before .before .before .before .before .before .accepting .ensures,
       protects (c .before .before .before .before .before .before .before .before .before .before .before .before .before .before),
     )
-    (room .0, omega arith, omega arith)
+    (room .0, omega arith, omega arith, place .0, omega arith)
 
 returns : tie.Need-returns
 unfolding moved
@@ -184,9 +204,10 @@ returns c =
     rw (
       c .answering .ensures,
       c .before .fate .ensures,
-      c .before .before .same .ensures,
+      c .before .before .counts .ensures,
       sent-is (c .before .before .before),
       weighed (waited .before),
+      stands-is (waited .before),
       waited .wait-of .ensures,
       c .before .before .before .before .before .before .before .before .before .before .given .ensures,
       c .before .before .before .before .before .before .before .before .before .before .before .before .before .accepting .ensures,
@@ -203,7 +224,7 @@ moved-spec =
     protection-requires
     asked-requires
     accepting-requires
-    held-requires
+    held-by-requires
     kept-requires
     given-requires
     replaces-held-requires
@@ -212,7 +233,7 @@ moved-spec =
     waiting-requires
     local-request-requires
     decided-requires
-    same-requires
+    counts-requires
     fate-requires
     answering-requires
     returns)

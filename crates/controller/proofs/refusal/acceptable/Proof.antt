@@ -1,4 +1,4 @@
--- `acceptable` meets its contract: the numbers of the two K1 values say what the rows say of them.
+-- `acceptable` meets its contract: the numbers of the K1 values say what the rows say of them.
 use Rattle.pair.specs.Request.{requests}
 use Rattle.pair.proofs.Looking.{usable-looked}
 use Rattle.pair.proofs.Coding.{usable-test}
@@ -22,20 +22,24 @@ against-mask-requires c κs = search needs
 wait-fits-requires : tie.Need-wait-fits-requires
 wait-fits-requires c κs = search needs
 
+held-fits-requires : tie.Need-held-fits-requires
+held-fits-requires c κs = search needs
+
 returns : tie.Need-returns
 unfolding acceptable
 returns c =
-    let start = c .before .before .before .before .before .before .before in
+    let start = c .before .before .before .before .before .before .before .before in
     let s = start .args .s in
     let fits = start .pre .0 in
     let accepted = usable-looked requests (s .k1) (s .n) fits in
     let sent = usable-looked requests (s .sent) (s .n) fits in
     rw (
-      c .wait-fits .ensures,
-      c .before .against-mask .ensures,
-      c .before .before .usable-in2 .ensures,
-      c .before .before .before .second-usable .ensures,
-      c .before .before .before .before .usable-in .ensures,
+      c .held-fits .ensures,
+      c .before .wait-fits .ensures,
+      c .before .before .against-mask .ensures,
+      c .before .before .before .usable-in2 .ensures,
+      c .before .before .before .before .second-usable .ensures,
+      c .before .before .before .before .before .usable-in .ensures,
       start .pre .1,
       start .pre .2,
       accepted,
@@ -52,4 +56,5 @@ acceptable-spec =
     usable-in-requires-2
     against-mask-requires
     wait-fits-requires
+    held-fits-requires
     returns)

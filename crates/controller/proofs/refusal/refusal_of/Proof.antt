@@ -61,7 +61,7 @@ acceptable-requires c κs =
     let start = c .before .before .before in
     let s = start .args .s in
     let none = sym (c .before .settings-refusal .ensures) ∙ c .if1 .left in
-    (settings-fit 1 2 (s .n) (s .mask) refl none .0, start .pre .0, start .pre .1)
+    (settings-fit 1 2 (s .n) (s .mask) refl none .0, start .pre .0, start .pre .1, start .pre .2)
 
 returns-2 : tie.Need-returns-2
 returns-2 c = sym (left-1 (c .before .before) ∙ simp (c .if2 .taken, ← c .before .acceptable .ensures))
