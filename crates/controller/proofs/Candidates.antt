@@ -1,15 +1,17 @@
 -- Laws of the candidates for the local request.
-use mathlib.Core.Path.{_≡_, refl, sym}
-use mathlib.Core.Bool.{Bool, true, false}
+use mathlib.Core.Path.{_≡_, refl, sym, _∙_}
+use mathlib.Core.Bool.{Bool, true, false, true≢false}
 use mathlib.Core.List.{List, [], _∷_}
 use mathlib.Core.Logic.{_⊎_, inl, inr, ⊎-elim}
 use Prim.Native.Nat.{ℕ, _<_, _≤_}
-use lib.Dec.{eqb}
+use native.Mathlib.Omega.{arith}
+use lib.Dec.{ltb, eqb}
+use borrow.Author.Tests.{ltb-true, ltb-false}
 use Rattle.pair.specs.Request.{rankIn, rankOf}
 use Rattle.pair.proofs.Ranks.{rank-own}
 use Rattle.request.specs.Order.{byTurn, OneOf, Orders}
 use Rattle.request.specs.declared.Request.{Request}
-use Rattle.request.proofs.Order.{one-split, one-joined, best-one, best-above, best-only, best-single, best-top}
+use Rattle.request.proofs.Order.{one-split, one-joined, best-one, best-above, best-beats, best-only, best-single, best-top}
 use Rattle.request.proofs.Order.{tie-lost, lower-first}
 use Rattle.request.proofs.FirstCome.{turn-orders}
 use Rattle.controller.specs.Rules.{reverse, noRequest, rankOfRequest, conditionsFrom, candidates, localRequest, decided}
@@ -79,6 +81,22 @@ module _ (mask protection : ℕ) (working : List ℕ) (command wait : Request) w
     pub local-above : (x : Request) → OneOf x all → order x near ≡ false
     unfolding localRequest
     local-above x among = best-above order (by .irreflexive) (by .transitive) all noRequest x (inr among)
+
+    -- it is NR 0, or has a rank
+    pub local-ranked : (near ≡ noRequest) ⊎ (0 < rankOfRequest near)
+    unfolding localRequest
+    local-ranked =
+        ⊎-elim inl (λ beats. inr (some beats)) (best-beats order (by .irreflexive) (by .transitive) all noRequest)
+      where
+        some : order near noRequest ≡ true → 0 < rankOfRequest near
+        some beats = go (ltb 0 (rankOfRequest near)) refl
+          where
+            go : (t : Bool) → ltb 0 (rankOfRequest near) ≡ t → 0 < rankOfRequest near
+            go true e = ltb-true 0 (rankOfRequest near) e
+            go false e =
+                let least = ltb-false 0 (rankOfRequest near) e in
+                let zero : rankOfRequest near ≡ 0 = omega arith in
+                absurd (true≢false (sym beats ∙ by .never near noRequest zero))
 
     pub local-single : (x : Request) → order x noRequest ≡ true
         → ((y : Request) → OneOf y all → (y ≡ x) ⊎ (order y noRequest ≡ false)) → OneOf x all → near ≡ x

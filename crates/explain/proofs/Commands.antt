@@ -5,7 +5,7 @@ use mathlib.Core.Logic.{_⊎_, inl, inr, ⊎-elim}
 use Prim.Native.Nat.{ℕ, _≤_}
 use lib.Dec.{leb, eqb, lit≤}
 use borrow.Author.Tests.{eqb-true, le-leb, eq-eqb, ne-eqb}
-use Rattle.pair.specs.Request.{requests, carries, channel-0, a-section, rankIn, rankOf, nothingCode}
+use Rattle.pair.specs.Request.{requests, carries, channel-0, nothingCode}
 use Rattle.pair.proofs.Rows.{heldIn, carried-within}
 use Rattle.request.specs.Order.{same}
 use Rattle.request.specs.declared.Request.{Request}
@@ -13,19 +13,9 @@ use Rattle.request.proofs.Order.{or-true, or-right}
 use Rattle.request.proofs.FirstCome.{same-one}
 use Rattle.controller.specs.Rules.{request, rankOfRequest, isCommand, held, isClear, given, replacesHeld}
 use Rattle.controller.specs.Refusals.{channelFits}
-use Rattle.controller.proofs.Apart.{none-rank}
+use Rattle.controller.proofs.Apart.{none-rank, command-cases}
+use Rattle.controller.proofs.Ranking.{on-section, on-protection, command-ranked}
 use Rattle.explain.specs.Cause.{rankHeld, commanded, commandNumber}
-use Rattle.explain.proofs.Ranking.{section-rank, on-section, on-protection}
-
--- LO, FS and MS
-pub command-cases : (code : ℕ) → isCommand code ≡ true → (code ≡ 0b1111) ⊎ (code ≡ 0b1110) ⊎ (code ≡ 0b1000)
-command-cases code h =
-    ⊎-elim
-    (λ two.
-    ⊎-elim (λ lo. inl (eqb-true code 0b1111 lo)) (λ fs. inr (inl (eqb-true code 0b1110 fs)))
-    (or-true (eqb code 0b1111) (eqb code 0b1110) two))
-    (λ ms. inr (inr (eqb-true code 0b1000 ms)))
-    (or-true (eqb code 0b1111 || eqb code 0b1110) (eqb code 0b1000) h)
 
 -- a command has another code than none
 pub command-code : (code : ℕ) → isCommand code ≡ true → eqb code nothingCode ≡ false
@@ -52,7 +42,7 @@ module _ (n : ℕ) (x : Request) (carried : carries requests n (x .code) (x .cha
   -- on a section, by the number and the code of the command
   on-some : (k code : ℕ) → x .code ≡ code → k ≤ 4 → leb k 2 ≡ false → isClear k ≡ false
       → given k (x .channel) ≡ request code (x .channel) → heldIn requests channel-0 code ≡ false
-      → 3 ≤ rankIn requests a-section code → Command n x k
+      → 3 ≤ rankOfRequest x → Command n x k
   on-some k code e known above-2 other new never high =
       let here : carries requests n code (x .channel) ≡ true = rw e at carried in
       let some = on-section n code (x .channel) never here in
@@ -62,31 +52,34 @@ module _ (n : ℕ) (x : Request) (carried : carries requests n (x .code) (x .cha
         fits = rw (above-2, le-leb 1 (x .channel) some, le-leb (x .channel) n most);
         other = other;
         new = new ∙ (λ i. record { code = sym e i; channel = x .channel });
-        high = rw (e, section-rank code (x .channel) some) high;
+        high = high;
       }
 
-  lock-out : x .code ≡ 0b1111 → Command n x 2
-  unfolding rankOf rankIn heldIn
-  lock-out e =
+  lock-out : x .code ≡ 0b1111 → 3 ≤ rankOfRequest x → Command n x 2
+  unfolding heldIn
+  lock-out e high =
       let zero : x .channel ≡ 0 = on-protection n 0b1111 (x .channel) refl (rw e at carried) in
       record {
         known = lit≤ tt;
         fits = rw zero;
         other = refl;
         new = λ i. record { code = sym e i; channel = sym zero i };
-        high = rw (e, zero) (lit≤ tt);
+        high = high;
       }
 
   pub a-command : isCommand (x .code) ≡ true → Command n x (commandNumber (x .code))
-  unfolding rankIn heldIn
+  unfolding heldIn
   a-command h = go (command-cases (x .code) h)
     where
+      high : 3 ≤ rankOfRequest x
+      high = command-ranked n x h carried
+
       go : (x .code ≡ 0b1111) ⊎ (x .code ≡ 0b1110) ⊎ (x .code ≡ 0b1000) → Command n x (commandNumber (x .code))
-      go (inl lo) = subst (Command n x) (sym (ap commandNumber lo)) (lock-out lo)
+      go (inl lo) = subst (Command n x) (sym (ap commandNumber lo)) (lock-out lo high)
       go (inr (inl fs)) =
-          subst (Command n x) (sym (ap commandNumber fs)) (on-some 3 0b1110 fs (lit≤ tt) refl refl refl refl (lit≤ tt))
+          subst (Command n x) (sym (ap commandNumber fs)) (on-some 3 0b1110 fs (lit≤ tt) refl refl refl refl high)
       go (inr (inr ms)) =
-          subst (Command n x) (sym (ap commandNumber ms)) (on-some 4 0b1000 ms (lit≤ tt) refl refl refl refl (lit≤ tt))
+          subst (Command n x) (sym (ap commandNumber ms)) (on-some 4 0b1000 ms (lit≤ tt) refl refl refl refl high)
 
 -- the closed form for commands, taken apart
 pub commanded-by : (hold x : Request) → commanded hold (held x) ≡ true

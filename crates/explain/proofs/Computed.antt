@@ -1,6 +1,6 @@
 -- The judge lines of document 01, computed.
 use mathlib.Core.Path.{_≡_, refl, subst}
-use mathlib.Core.Bool.{Bool, true, _&&_, and-eq-true-iff}
+use mathlib.Core.Bool.{Bool, true, false, _&&_, and-eq-true-iff}
 use mathlib.Core.List.{List, [], _∷_}
 use lib.Dec.{eqb}
 use lib.ListN.{length}
@@ -32,23 +32,23 @@ alike-eq j k h =
 
 -- the scan gives the line's answer
 abbrev gives : Line → Bool
-gives (bytes is j) = eqb (firstOf (sizeFaults (length bytes))) 0 && alike (scanned (fresh 2 0 3) bytes) j
+gives (bytes is j) = eqb (firstOf (sizeFaults (length bytes))) 0 && alike (scanned (fresh 2 false 0 3) bytes) j
 
 table : every gives lines ≡ true
 unfolding alike next arises unseen answers finding usable carries listed rankOf rankIn
 table = refl
 
-all-right : (some : List Line) → every gives some ≡ true → AllRight some
-all-right [] h = tt
-all-right ((bytes is j) ∷ rest) h =
+all-right : (hold : Bool) (some : List Line) → every gives some ≡ true → AllRight hold some
+all-right hold [] h = tt
+all-right hold ((bytes is j) ∷ rest) h =
     let both = and-eq-true-iff (gives (bytes is j)) (every gives rest) .0 h in
     let parts =
-    and-eq-true-iff (eqb (firstOf (sizeFaults (length bytes))) 0) (alike (scanned (fresh 2 0 3) bytes) j) .0 (both .0) in
+    and-eq-true-iff (eqb (firstOf (sizeFaults (length bytes))) 0) (alike (scanned (fresh 2 false 0 3) bytes) j) .0 (both .0) in
     let none = eqb-true (firstOf (sizeFaults (length bytes))) 0 (parts .0) in (
-      subst (Right 2 0 3 bytes) (alike-eq (scanned (fresh 2 0 3) bytes) j (parts .1))
-          (scanned-right 2 0 3 bytes (sizeFaults (length bytes)) refl refl none),
-      all-right rest (both .1),
+      subst (Right 2 hold 0 3 bytes) (alike-eq (scanned (fresh 2 false 0 3) bytes) j (parts .1))
+          (scanned-right 2 hold 0 3 bytes (sizeFaults (length bytes)) refl refl none),
+      all-right hold rest (both .1),
     )
 
-pub lines-all-right : AllRight lines
-lines-all-right = all-right lines table
+pub lines-all-right : (hold : Bool) → AllRight hold lines
+lines-all-right hold = all-right hold lines table

@@ -24,11 +24,13 @@ use Rattle.explain.specs.Cause.{mayHide, only, badFor, isNew, commandFor
 use Rattle.explain.specs.Causes.{conditionsIn, noOtherBit, causeIn, causesIn, Shown}
 use Rattle.explain.specs.Filling.{failedIn, conditionsKept, commandKept, conditionsAlong, commandsAlong, ended}
 use Rattle.explain.specs.Filling.{idleBack, settledWord, idleBefore, settled, heardPlace, Fills}
+use Rattle.explain.specs.Hold.{withHold}
 use Rattle.explain.specs.Scan.{Scanned, all, first, scanFrom}
 use Rattle.explain.specs.Trace.{start, live, hiddenIn, next}
 use Rattle.explain.specs.declared.Records.{Records}
 use Rattle.explain.proofs.Reached.{Able}
-use Rattle.explain.proofs.Possible.{In, flag, pick, any-flag, live-sendable, causeShown, failedBy, idleBy, next-led}
+use Rattle.explain.proofs.Possible.{In, flag, pick, any-flag, live-sendable, causeShown, failedBy, idleBy}
+use Rattle.explain.proofs.Remembering.{fresh-held, held-led}
 use Rattle.explain.proofs.Followed.{hidden-live}
 use Rattle.explain.proofs.Exact.{able-behind, begin-able}
 use Rattle.explain.proofs.Words.{bad-few, word-below}
@@ -125,75 +127,79 @@ module _ (d : Records) (r : Row) (fits : sectionsFit (d .controller .n) ≡ true
       go true = omega arith
       go false = lit< tt
 
-  cause-is : (idle : Bool) →
-      let command = commandKept s (next d r .controller .k1) (r .sentK1) in
-      causeIn (s .n) (settledWord idle kept) command ≡ causeShown d r (failedBy d r idle)
+  cause-is : (hold idle : Bool) →
+      let command = commandKept hold s (next d r .controller .k1) (r .sentK1) in
+      causeIn (s .n) (settledWord idle kept) command ≡ causeShown d r hold (failedBy d r idle)
   unfolding next
-  cause-is idle =
-      let loud = isLouder (waitOf s last 0) last (asked (next d r .controller .k1)) x in
+  cause-is hold idle =
+      let loud = isLouder hold (waitOf s last 0) last (asked (next d r .controller .k1)) x in
       let back = command-back (commandFor last x loud) (channelFor last x) channel-small in
       let conditions = ap (conditionsIn (s .n + 1)) (settled-is idle) ∙ conditions-are (failedBy d r idle) in
       λ i. record { conditions = conditions i; command = back .0 i; channel = back .1 i }
 
--- all rows
-settles : (rows : List Row) (d : Records) → ((s : Controller) → In d s → Able s) → live d ≡ true
-    → sectionsFit (d .controller .n) ≡ true → Alive d rows → (end : Bool) → flag (ended d rows) end ≡ true →
-    let n = d .controller .n in
-    let words = conditionsAlong d rows in
-    (flag d (idleBefore end words) ≡ true)
-    × Explains (pick d (idleBefore end words)) (causesIn n (settled end words) (commandsAlong d rows)) rows
-    × (every (noOtherBit n) (settled end words) ≡ true)
-settles [] d good alive fits more end e = (e, tt, refl)
-settles (r ∷ rows) d good alive fits more end e =
-    let goes = more .0 in
-    let kept = sections-kept d r in
-    let n = d .controller .n in
-    let (was, rest, bits) =
-    settles rows (next d r) (able-behind d r alive good) goes (rw kept fits) (more .1) end e in
-    let words = conditionsAlong (next d r) rows in
-    let idle = idleBefore end words in
-    let word = conditionsKept (d .controller) (d .heard) (r .sentK1) in
-    let (before, led) = next-led d r good alive idle was in
-    let causes = causesIn n (settled end words) (commandsAlong (next d r) rows) in
-    let behind =
-    subst (λ (u : Controller). Explains u causes rows) (led .1)
-    (subst
-    (λ (m : ℕ). Explains (pick (next d r) idle) (causesIn m (settled end words) (commandsAlong (next d r) rows)) rows) kept rest) in
-    let back = idle-is d r fits goes idle in
-    let cause = cause-is d r fits goes idle in
-    let fit = subst (λ (v : ℕ). noOtherBit n v ≡ true) (sym (settled-is d r fits goes idle)) (bits-fit d r fits goes (failedBy d r idle)) in (
-      subst (λ (t : Bool). flag d t ≡ true) back before,
-      subst
-          (λ (t : Bool).
-          Explains (pick d t) (causeIn n (settledWord idle word) (commandKept (d .controller) (next d r .controller .k1) (r .sentK1)) ∷ causes) (r ∷ rows))
-          back
-          (subst (λ (c : Cause). Explains (pick d (idleBy d r idle)) (c ∷ causes) (r ∷ rows)) (sym cause) (led .0, behind)),
-      and-eq-true-iff (noOtherBit n (settledWord idle word)) (every (noOtherBit n) (settled end words)) .1
-          (fit, subst (λ (m : ℕ). every (noOtherBit m) (settled end words) ≡ true) kept bits),
-    )
+-- all rows, with hold or without
+module _ (hold : Bool) where
+  settles : (rows : List Row) (d : Records) → ((s : Controller) → In d s → Able s) → live d ≡ true
+      → sectionsFit (d .controller .n) ≡ true → Alive d rows → (end : Bool) → flag (ended d rows) end ≡ true →
+      let n = d .controller .n in
+      let words = conditionsAlong d rows in
+      (flag d (idleBefore end words) ≡ true)
+      × Explains (withHold hold (pick d (idleBefore end words))) (causesIn n (settled end words) (commandsAlong hold d rows)) rows
+      × (every (noOtherBit n) (settled end words) ≡ true)
+  settles [] d good alive fits more end e = (e, tt, refl)
+  settles (r ∷ rows) d good alive fits more end e =
+      let goes = more .0 in
+      let kept = sections-kept d r in
+      let n = d .controller .n in
+      let (was, rest, bits) =
+      settles rows (next d r) (able-behind d r alive good) goes (rw kept fits) (more .1) end e in
+      let words = conditionsAlong (next d r) rows in
+      let idle = idleBefore end words in
+      let word = conditionsKept (d .controller) (d .heard) (r .sentK1) in
+      let (before, led) = held-led hold d r good alive idle was in
+      let causes = causesIn n (settled end words) (commandsAlong hold (next d r) rows) in
+      let behind =
+      subst (λ (u : Controller). Explains u causes rows) (led .1)
+      (subst
+      (λ (m : ℕ).
+      Explains (withHold hold (pick (next d r) idle)) (causesIn m (settled end words) (commandsAlong hold (next d r) rows)) rows)
+      kept rest) in
+      let back = idle-is d r fits goes idle in
+      let cause = cause-is d r fits goes hold idle in
+      let fit =
+      subst (λ (v : ℕ). noOtherBit n v ≡ true) (sym (settled-is d r fits goes idle)) (bits-fit d r fits goes (failedBy d r idle)) in (
+        subst (λ (t : Bool). flag d t ≡ true) back before,
+        subst
+            (λ (t : Bool).
+            Explains (withHold hold (pick d t)) (causeIn n (settledWord idle word) (commandKept hold (d .controller) (next d r .controller .k1) (r .sentK1)) ∷ causes) (r ∷ rows))
+            back
+            (subst (λ (c : Cause). Explains (withHold hold (pick d (idleBy d r idle))) (c ∷ causes) (r ∷ rows)) (sym cause) (led .0, behind)),
+        and-eq-true-iff (noOtherBit n (settledWord idle word)) (every (noOtherBit n) (settled end words)) .1
+            (fit, subst (λ (m : ℕ). every (noOtherBit m) (settled end words) ≡ true) kept bits),
+      )
 
 -- from a fresh record
-module _ (n mask w : ℕ) (fits : sectionsFit n ≡ true) (mask-fits : maskFits n mask ≡ true) (rows : List Row) where
+module _ (n : ℕ) (hold : Bool) (mask w : ℕ) (fits : sectionsFit n ≡ true) (mask-fits : maskFits n mask ≡ true) (rows : List Row) where
   abbrev begin : Records
-  begin = start (fresh n mask w)
+  begin = start (fresh n false mask w)
 
-  begun : (idle : Bool) → flag begin idle ≡ true → (causes : List Cause) → Explains (pick begin idle) causes rows
-      → Explains (fresh n mask w) causes rows
+  begun : (idle : Bool) → flag begin idle ≡ true → (causes : List Cause) → Explains (withHold hold (pick begin idle)) causes rows
+      → Explains (fresh n hold mask w) causes rows
   begun true e causes h = absurd (false≢true e)
-  begun false e causes h = h
+  begun false e causes h = subst (λ (s : Controller). Explains s causes rows) (fresh-held n hold mask w) h
 
   pub filled-shown : (k : ℕ) → scanFrom next live 0 begin rows ≡ all k → (old old2 new new2 : List ℕ)
-      → Fills begin rows old old2 new new2 → Shown n mask w rows old old2 new new2
+      → Fills hold begin rows old old2 new new2 → Shown n hold mask w rows old old2 new new2
   filled-shown k e old old2 new new2 fills =
       let more = scan-alive rows 0 k begin e in
       let last = any-flag (ended begin rows) (ended-live rows begin refl more) in
       let end = not (ended begin rows .heard) in
       let words = conditionsAlong begin rows in
-      let (was, explains, bits) = settles rows begin (begin-able n mask w fits mask-fits) refl fits more end last in
+      let (was, explains, bits) = settles hold rows begin (begin-able n mask w fits mask-fits) refl fits more end last in
       record {
         explains =
             rw (fills .conditions .written, fills .commands .written)
-            (begun (idleBefore end words) was (causesIn n (settled end words) (commandsAlong begin rows)) explains);
+            (begun (idleBefore end words) was (causesIn n (settled end words) (commandsAlong hold begin rows)) explains);
         no-other-bit = rw (fills .conditions .written) bits;
         conditions-behind = fills .conditions .behind;
         commands-behind = fills .commands .behind;

@@ -56,10 +56,10 @@ module _ (s : Controller) (bytes : List ℕ) (room room2 : ℕ) (fit : Fit (star
           }
 
 -- both ways together
-pub fills : {d : Records} {rows : List Row} {steps : ℕ} {old old2 between new new2 : List ℕ} {idle : Bool}
+pub fills : {hold : Bool} {d : Records} {rows : List Row} {steps : ℕ} {old old2 between new new2 : List ℕ} {idle : Bool}
     → length rows ≡ steps → idle ≡ not (ended d rows .heard)
     → Stored steps (conditionsAlong d rows) old between → Stored steps (settled idle (take steps between)) between new
-    → Stored steps (commandsAlong d rows) old2 new2 → Fills d rows old old2 new new2
+    → Stored steps (commandsAlong hold d rows) old2 new2 → Fills hold d rows old old2 new new2
 fills long e forward backward commands =
     record {
       conditions =

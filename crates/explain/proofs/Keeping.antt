@@ -81,8 +81,8 @@ module _ {f : Records → Row → ℕ} {begin possible : Records} {rows : List R
 abbrev conditionsOf : Records → Row → ℕ
 conditionsOf d r = conditionsKept (d .controller) (d .heard) (r .sentK1)
 
-abbrev commandsOf : Records → Row → ℕ
-commandsOf d r = commandKept (d .controller) (next d r .controller .k1) (r .sentK1)
+abbrev commandsOf : Bool → Records → Row → ℕ
+commandsOf hold d r = commandKept hold (d .controller) (next d r .controller .k1) (r .sentK1)
 
 -- the steps, as many as are asked for
 abbrev rowsIn : List ℕ → ℕ → List Row
@@ -92,8 +92,8 @@ pub rows-in-long : (bytes : List ℕ) (steps : ℕ) → 4 * steps ≤ length byt
 rows-in-long bytes steps inside = length-take-le steps (rowsOf bytes) (omega (arith, rows-long bytes))
 
 -- at a step: what the loop follows, and the records of the scan that it follows
-pub record Keeping (bytes : List ℕ) (steps : ℕ) (begin possible : Records) (old old2 table table2 : List ℕ) (step : ℕ)
-    : Type 0 where
+pub record Keeping (hold : Bool) (bytes : List ℕ) (steps : ℕ) (begin possible : Records)
+    (old old2 table table2 : List ℕ) (step : ℕ) : Type 0 where
   pub within : step ≤ steps
   pub inside : 4 * steps ≤ length bytes
   pub scan : Records
@@ -103,11 +103,12 @@ pub record Keeping (bytes : List ℕ) (steps : ℕ) (begin possible : Records) (
   pub alive : scanFrom next live step scan (drop step (rowsIn bytes steps)) ≡ all steps
   pub ends : ended scan (drop step (rowsIn bytes steps)) ≡ ended begin (rowsIn bytes steps)
   pub conditions : Kept conditionsOf begin scan (rowsIn bytes steps) old table step
-  pub commands : Kept commandsOf begin scan (rowsIn bytes steps) old2 table2 step
+  pub commands : Kept (commandsOf hold) begin scan (rowsIn bytes steps) old2 table2 step
 
-pub keeping-start : (bytes : List ℕ) (steps : ℕ) (begin : Records) (table table2 : List ℕ)
-    → Keeps begin bytes steps (length table) (length table2) → Keeping bytes steps begin begin table table2 table table2 0
-keeping-start bytes steps begin table table2 asked =
+pub keeping-start : (hold : Bool) (bytes : List ℕ) (steps : ℕ) (begin : Records) (table table2 : List ℕ)
+    → Keeps begin bytes steps (length table) (length table2)
+    → Keeping hold bytes steps begin begin table table2 table table2 0
+keeping-start hold bytes steps begin table table2 asked =
     let rows = rowsIn bytes steps in
     let long = rows-in-long bytes steps (asked .inside) in
     let room = asked .conditions-room in
@@ -122,11 +123,11 @@ keeping-start bytes steps begin table table2 asked =
       alive = asked .alive;
       ends = refl;
       conditions = kept-start conditionsOf begin rows table (omega arith);
-      commands = kept-start commandsOf begin rows table2 (omega arith);
+      commands = kept-start (commandsOf hold) begin rows table2 (omega arith);
     }
 
-module _ {bytes : List ℕ} {steps : ℕ} {begin possible : Records} {old old2 table table2 : List ℕ} {step : ℕ}
-    (k : Keeping bytes steps begin possible old old2 table table2 step) where
+module _ {hold : Bool} {bytes : List ℕ} {steps : ℕ} {begin possible : Records} {old old2 table table2 : List ℕ} {step : ℕ}
+    (k : Keeping hold bytes steps begin possible old old2 table table2 step) where
   abbrev rows : List Row
   rows = rowsIn bytes steps
 
@@ -181,13 +182,13 @@ module _ {bytes : List ℕ} {steps : ℕ} {begin possible : Records} {old old2 t
       accepted-within = rw (follows .0) (fits .accepted)
 
       pub keeping-next : {word word2 : ℕ} → word ≡ conditionsKept (possible .controller) (possible .heard) (here .sentK1)
-          → word2 ≡ commandKept (possible .controller) (after .controller .k1) (here .sentK1)
-          → Keeping bytes steps begin after old old2 (set table step word) (set table2 step word2) (step + 1)
+          → word2 ≡ commandKept hold (possible .controller) (after .controller .k1) (here .sentK1)
+          → Keeping hold bytes steps begin after old old2 (set table step word) (set table2 step word2) (step + 1)
       keeping-next {word} {word2} e f =
           let e′ : word ≡ conditionsOf (k .scan) here =
           e ∙ (λ i. conditionsKept (k .same i) (k .heard i) (here .sentK1)) in
-          let f′ : word2 ≡ commandsOf (k .scan) here =
-          f ∙ (λ i. commandKept (k .same i) (follows .0 i .k1) (here .sentK1)) in
+          let f′ : word2 ≡ commandsOf hold (k .scan) here =
+          f ∙ (λ i. commandKept hold (k .same i) (follows .0 i .k1) (here .sentK1)) in
           rw (add-one step)
           record {
             within = h;
@@ -216,5 +217,5 @@ module _ {bytes : List ℕ} {steps : ℕ} {begin possible : Records} {old old2 t
     pub conditions-kept : Stored steps (along conditionsOf begin rows) old table
     conditions-kept = rw is-end at (kept-done (k .conditions) none-left)
 
-    pub commands-kept : Stored steps (along commandsOf begin rows) old2 table2
+    pub commands-kept : Stored steps (along (commandsOf hold) begin rows) old2 table2
     commands-kept = rw is-end at (kept-done (k .commands) none-left)

@@ -4,6 +4,8 @@ mod Ranking
 mod Single
 mod Commands
 mod Local
+mod Moving
+mod Without
 mod Witness
 mod Source
 mod OneStep
@@ -11,6 +13,9 @@ mod Alarmed
 mod Reached
 mod Possible
 pub mod Exact
+mod Remembering
+mod Forgetting
+pub mod Alike
 mod Ranked
 mod Followed
 mod Repeating

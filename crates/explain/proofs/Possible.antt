@@ -35,11 +35,11 @@ flag d idle = if idle then d .idle else d .heard
 abbrev pub pick : Records → Bool → Controller
 pick d idle = if idle then idled (d .controller) else d .controller
 
-pick-in : (d : Records) (idle : Bool) → flag d idle ≡ true → In d (pick d idle)
+pub pick-in : (d : Records) (idle : Bool) → flag d idle ≡ true → In d (pick d idle)
 pick-in d true e = inr (e, refl)
 pick-in d false e = inl (e, refl)
 
-in-pick : (d : Records) (s : Controller) → In d s → (idle : Bool) × (flag d idle ≡ true) × (s ≡ pick d idle)
+pub in-pick : (d : Records) (s : Controller) → In d s → (idle : Bool) × (flag d idle ≡ true) × (s ≡ pick d idle)
 in-pick d s (inl (e, is)) = (false, e, is)
 in-pick d s (inr (e, is)) = (true, e, is)
 
@@ -72,9 +72,19 @@ module _ (d : Records) (r : Row) where
   base = d .controller
 
   -- it with a pair accepted
-  abbrev holding : ℕ → ℕ → Controller
+  abbrev pub holding : ℕ → ℕ → Controller
   holding k1 k2 =
-      record { n = base .n; mask = base .mask; w = base .w; k1 = k1; k2 = k2; sent = base .sent; left = base .left }
+      record {
+        n = base .n;
+        hold = base .hold;
+        mask = base .mask;
+        w = base .w;
+        k1 = k1;
+        k2 = k2;
+        sent = base .sent;
+        left = base .left;
+        held = base .held;
+      }
 
   abbrev x : Request
   x = asked (r .sentK1)
@@ -149,8 +159,8 @@ module _ (d : Records) (r : Row) where
   abbrev shows : Request
   shows = asked (acceptedByte fits (r .k1) (base .k1))
 
-  abbrev pub causeShown : Bool → Cause
-  causeShown failed = causeFor (base .n) (base .mask) now (asked (base .sent)) shows failed x
+  abbrev pub causeShown : Bool → Bool → Cause
+  causeShown hold failed = causeFor (base .n) hold (base .mask) now (asked (base .sent)) shows failed x
 
   abbrev pub failedBy : Bool → Bool
   failedBy idle = idle && hidden
@@ -158,7 +168,7 @@ module _ (d : Records) (r : Row) where
   abbrev pub idleBy : Bool → Bool
   idleBy idle = if idle && not hidden then true else not (d .heard)
 
-  module _ (good : (s : Controller) → In d s → Able s) where
+  module _ (hold : Bool) (good : (s : Controller) → In d s → Able s) where
     abbrev From : Controller → Type 0
     From u = (s : Controller) × (c : Cause) × In d s × Sends (stepped s c r) r × (u ≡ stepped s c r .controller)
 
@@ -166,7 +176,7 @@ module _ (d : Records) (r : Row) where
     -- section 0 may have failed, it had; where it had not, the record with 00 08 accepted stood so before; else any will do.
     abbrev LedBy : Bool → Controller → Controller → Type 0
     LedBy failed u s =
-        Sends (stepped s (causeShown failed) r) r × (u ≡ stepped s (causeShown failed) r .controller)
+        Sends (stepped s (causeShown hold failed) r) r × (u ≡ stepped s (causeShown hold failed) r .controller)
 
     abbrev pub Led : Bool → Controller → Type 0
     Led idle u = (flag d (idleBy idle) ≡ true) × LedBy (failedBy idle) u (pick d (idleBy idle))
@@ -194,8 +204,8 @@ module _ (d : Records) (r : Row) where
       by-failed : sendable ≡ true → hidden ≡ true → FromEach true (after idleK1 idleK2)
       by-failed can h k1 k2 i =
           let s = holding k1 k2 in
-          failed-leads s r (rings (s .n)) (causeShown true) refl (after idleK1 idleK2)
-          (failed-sends s (quieted r) (good s i) (alarm-test (s .n) idleK1 idleK2) shows can h)
+          failed-leads s r (rings (s .n)) (causeShown hold true) refl (after idleK1 idleK2)
+          (failed-sends s (quieted r) (good s i) (alarm-test (s .n) idleK1 idleK2) hold shows can h)
 
       alarmed-led : live d ≡ true → sendable ≡ true → (idle : Bool) → flag alarmed idle ≡ true
           → Led idle (pick alarmed idle)
@@ -223,7 +233,7 @@ module _ (d : Records) (r : Row) where
 
       -- by a failed section 0, whatever was accepted before
       by-hidden : sendable ≡ true → hidden ≡ true → FromEach true (after idleK1 idleK2)
-      by-hidden can h k1 k2 i = let s = holding k1 k2 in failed-sends s r (good s i) (still (s .n)) shows can h
+      by-hidden can h k1 k2 i = let s = holding k1 k2 in failed-sends s r (good s i) (still (s .n)) hold shows can h
 
       -- by the pair that is then accepted, where k1 k2 was before: the one that is shown, or it asks for nothing
       by-accepted : (k1 k2 : ℕ) → In d (holding k1 k2) → (t : Bool) → fits ≡ t → sendable ≡ true →
@@ -235,7 +245,7 @@ module _ (d : Records) (r : Row) where
           let stood = far-accepted s r (good s i) (still (s .n)) t f in
           let asks = far-asked s r (good s i) (still (s .n)) false ∙ ap asked (stood .0) in
           rw (← stood .0, ← stood .1)
-          (open-sends s r (good s i) (still (s .n)) shows
+          (open-sends s r (good s i) (still (s .n)) hold shows
           (subst (λ (y : Request). (y ≡ shows) ⊎ (mayWin (rankOfRequest y) ≡ false)) (sym asks) which) can (rw (← stood .0) at h))
 
       replaced-led : live d ≡ true → sendable ≡ true → fits ≡ true → (idle : Bool) → flag replaced idle ≡ true
@@ -325,7 +335,7 @@ module _ (d : Records) (r : Row) where
         forward i =
             let (idle, e, is) = in-pick (next d r) u i in
             let (was, led) = next-led alive idle e in
-            (pick d (idleBy idle), causeShown (failedBy idle), pick-in d (idleBy idle) was, led .0, is ∙ led .1)
+            (pick d (idleBy idle), causeShown hold (failedBy idle), pick-in d (idleBy idle) was, led .0, is ∙ led .1)
 
         backward : (b t : Bool) → alarmIn (r .k2) ≡ b → fits ≡ t → From u → In (next d r) u
         backward true t q f from =

@@ -1,38 +1,14 @@
--- Ranks and channels of requests by their codes, as the table has them.
-use mathlib.Core.Path.{_≡_, refl, sym, ap, _∙_}
-use mathlib.Core.Bool.{Bool, true, false, and-eq-true-iff, false≢true}
+-- Ranks of requests by their codes, as the table has them.
+use mathlib.Core.Path.{_≡_, refl}
+use mathlib.Core.Bool.{Bool, true, false}
 use Prim.Native.Nat.{ℕ, _≤_, _<_}
 use native.Mathlib.Omega.{arith}
-use lib.Dec.{leb, eqb, lit<}
-use borrow.Author.Tests.{eqb-true, eqb-false, ne-eqb}
-use Rattle.pair.specs.Request.{requests, carries, channel-0, a-section, rankIn, rankOf}
-use Rattle.pair.proofs.Rows.{heldIn, carries-0, carries-section}
+use lib.Dec.{eqb, lit<}
+use borrow.Author.Tests.{eqb-true, eqb-false}
+use Rattle.pair.specs.Request.{requests, channel-0, a-section, rankIn, rankOf}
 use Rattle.controller.specs.Settings.{high}
 use Rattle.controller.specs.Rules.{failCode, degradeCode}
-
--- the rank on a section
-pub section-rank : (code c : ℕ) → 1 ≤ c → rankOf code c ≡ rankIn requests a-section code
-unfolding rankOf
-section-rank code c h = rw (ne-eqb c 0 (omega arith))
-
--- a code without channel 0 comes with a section, and one without sections with channel 0
-pub on-section : (n code c : ℕ) → heldIn requests channel-0 code ≡ false → carries requests n code c ≡ true → 1 ≤ c
-on-section n code c none h = go (eqb c 0) refl
-  where
-    go : (t : Bool) → eqb c 0 ≡ t → 1 ≤ c
-    go true e =
-        let z : c ≡ 0 = eqb-true c 0 e in
-        absurd (false≢true (sym none ∙ sym (carries-0 requests n code) ∙ ap (carries requests n code) (sym z) ∙ h))
-    go false e = let some = eqb-false c 0 e in omega arith
-
-pub on-protection : (n code c : ℕ) → heldIn requests a-section code ≡ false → carries requests n code c ≡ true → c ≡ 0
-on-protection n code c none h = go (eqb c 0) refl
-  where
-    go : (t : Bool) → eqb c 0 ≡ t → c ≡ 0
-    go true e = eqb-true c 0 e
-    go false e =
-        let held = sym (carries-section requests n code c (eqb-false c 0 e)) ∙ h in
-        absurd (false≢true (sym none ∙ and-eq-true-iff (heldIn requests a-section code) (leb c n) .0 held .0))
+use Rattle.controller.proofs.Ranking.{section-rank}
 
 -- on which channel a request stands, its rank is one of two
 pub rank-cases : (P : ℕ → Type 0) (code c : ℕ) → P (rankIn requests channel-0 code) → P (rankIn requests a-section code)

@@ -5,7 +5,7 @@ use mathlib.Core.Logic.{_⊎_, inl, inr}
 use Prim.Native.Nat.{ℕ, _+_}
 use native.Mathlib.Omega.{arith}
 use lib.Dec.{eqb}
-use lib.ListN.{length}
+use lib.ListN.{length, drop}
 use borrow.Author.Tests.{eqb-true, eq-eqb, le-leb}
 use Rattle.basics.specs.Choice.{if_then_else_}
 use Rattle.basics.specs.Settings.{sectionsFit, maskFits}
@@ -16,9 +16,9 @@ use Rattle.request.specs.Bridge.{bridge}
 use Rattle.request.specs.Order.{mayWin}
 use Rattle.request.specs.declared.Request.{Request}
 use Rattle.request.proofs.Channels.{bridge-within}
-use Rattle.controller.specs.Settings.{idleK1, idleK2}
-use Rattle.controller.specs.Rules.{asked, rankOfRequest, accepted, accepting, held, isWait, decided, leftAfter, keepsBridge}
-use Rattle.controller.specs.Rules.{k1Of, k2Of}
+use Rattle.controller.specs.Settings.{idleK1, idleK2, noneHeld}
+use Rattle.controller.specs.Rules.{asked, k1Of, rankOfRequest, accepted, accepting, held, heldBy, isWait, waiting}
+use Rattle.controller.specs.Rules.{localRequest, decided, heldAfter, leftAfter, keepsBridge, k2Of}
 use Rattle.controller.specs.Refusals.{acceptable, refusal}
 use Rattle.controller.specs.Step.{protection, waitOf, moved}
 use Rattle.controller.specs.declared.Controller.{Controller}
@@ -32,13 +32,15 @@ use Rattle.explain.specs.Explained.{Cause, stepped, Sends}
 use Rattle.explain.specs.Cause.{commanded, unseen, answers}
 use Rattle.explain.specs.Trace.{secondFits, opens, localIn, hiddenIn, recordAfter, acceptedByte}
 use Rattle.explain.proofs.Local.{wait-unclear, nearOf}
+use Rattle.explain.proofs.Moving.{standsFor, moved-parts}
 use Rattle.explain.proofs.OneStep.{CausedBy, Caused, shownBy, open-shown, hidden-shown, one-step, one-hidden-step}
 
--- what a run keeps of a record
+-- what a run keeps of a record, without hold
 pub record Able (s : Controller) : Type 0 where
   pub fits : sectionsFit (s .n) ≡ true
   pub mask-fits : maskFits (s .n) (s .mask) ≡ true
   pub accepts : acceptable s ≡ true
+  pub off : s .hold ≡ false
 
 pub able-next : (s : Controller) (cause : Cause) (r : Row) → Able s → Sends (stepped s cause r) r
     → Able (stepped s cause r .controller)
@@ -48,6 +50,7 @@ able-next s cause r a sends =
       fits = rw (k .sections) (a .fits);
       mask-fits = rw (k .sections, k .priorities) (a .mask-fits);
       accepts = k .accepts;
+      off = k .setting ∙ a .off;
     }
 
 k1-whole : (k1 : ℕ) → k1Of (asked k1) ≡ k1
@@ -88,18 +91,57 @@ module _ (s : Controller) (r : Row) (able : Able s) (quiet : alarm (s .n) (r .k1
           o .controller
           ≡ record {
             n = s .n;
+            hold = s .hold;
             mask = s .mask;
             w = s .w;
             k1 = farK1 failed;
             k2 = farK2 failed;
             sent = k1Of (decided (far failed) near);
             left = leftAfter (decided (far failed) near) now;
+            held = noneHeld;
           }
+
+    -- without hold the held command is read off the K1 last sent
+    read-off : heldBy (s .hold) (s .held) last ≡ held last
+    read-off = ap (λ (t : Bool). heldBy t (s .held) last) (able .off)
+
+    abbrev sentBy : Bool → Request → Request
+    sentBy failed holds =
+        decided (far failed)
+        (localRequest (s .mask) last (protection (cause .conditions)) (drop 1 (cause .conditions))
+        (standsFor holds (cause .command) (cause .channel)) (waiting now last))
 
     moved-is : Answered (eqb (protection (cause .conditions)) 2)
         (moved s (r .k1) (r .k2) (cause .conditions) (cause .command) (cause .channel))
-    unfolding moved
-    moved-is = record { first = refl; second = refl; after = refl }
+    moved-is =
+        let failed = eqb (protection (cause .conditions)) 2 in
+        let parts = moved-parts s (r .k1) (r .k2) (cause .conditions) (cause .command) (cause .channel) in
+        let none : heldAfter (s .hold) (standsFor (heldBy (s .hold) (s .held) last) (cause .command) (cause .channel)) ≡ noneHeld =
+        ap
+        (λ (t : Bool).
+        heldAfter t (standsFor (heldBy (s .hold) (s .held) last) (cause .command) (cause .channel))) (able .off) in
+        record {
+          first = parts .first ∙ ap (λ (y : Request). k1Of (sentBy failed y)) read-off;
+          second =
+              parts .second
+              ∙ ap
+              (λ (y : Request).
+              k2Of (bridge (far failed .channel) (sentBy failed y .channel) (keepsBridge (sentBy failed y)))) read-off;
+          after =
+              parts .after
+              ∙ (λ i.
+              record {
+                n = s .n;
+                hold = s .hold;
+                mask = s .mask;
+                w = s .w;
+                k1 = farK1 failed;
+                k2 = farK2 failed;
+                sent = k1Of (sentBy failed (read-off i));
+                left = leftAfter (sentBy failed (read-off i)) now;
+                held = none i;
+              });
+        }
 
     step-is : (failed : Bool) → eqb (protection (cause .conditions)) 2 ≡ failed → stepped s cause r .refusal ≡ 0
         → Answered failed (stepped s cause r)
@@ -166,7 +208,9 @@ module _ (s : Controller) (r : Row) (able : Able s) (quiet : alarm (s .n) (r .k1
     answered = step-is cause failed refl (sends .not-refused)
 
     sendable : Sendable (s .n) (s .mask) (now cause) sent
-    sendable = sent-sendable s (cause .conditions) (cause .command) (cause .channel) well failed (r .k1) (r .k2)
+    sendable =
+        subst (λ (y : Request). Sendable (s .n) (s .mask) (now cause) (sentBy cause failed y)) (read-off cause)
+        (sent-sendable s (cause .conditions) (cause .command) (cause .channel) well failed (r .k1) (r .k2))
 
     first-is : k1Of sent ≡ r .sentK1
     first-is = sym (answered .first) ∙ sends .first
@@ -235,12 +279,14 @@ module _ (s : Controller) (r : Row) (able : Able s) (quiet : alarm (s .n) (r .k1
         ∙ (λ i.
         record {
           n = s .n;
+          hold = s .hold;
           mask = s .mask;
           w = s .w;
           k1 = farK1 failed;
           k2 = farK2 failed;
           sent = first-is i;
           left = left-is i;
+          held = noneHeld;
         }))
 
   bridge-none : (c : ℕ) (kept : Bool) → bridge 0 c kept ≡ 0
@@ -293,8 +339,8 @@ module _ (s : Controller) (r : Row) (able : Able s) (quiet : alarm (s .n) (r .k1
   abbrev pub LeadsTo : Cause → Controller → Type 0
   LeadsTo cause u = Sends (stepped s cause r) r × (u ≡ stepped s cause r .controller)
 
-  abbrev pub shownIn : Request → Bool → Cause
-  shownIn shows failed = shownBy (s .n) (s .mask) (s .w) (s .left) last shows failed x
+  abbrev pub shownIn : Bool → Request → Bool → Cause
+  shownIn hold shows failed = shownBy (s .n) (s .mask) (s .w) (s .left) last hold shows failed x
 
   caused-sends : (t : Bool) (cause : Cause)
       → CausedBy (s .n) (s .mask) (s .w) (s .left) last t (far t) (held last) (held x) x cause
@@ -323,27 +369,27 @@ module _ (s : Controller) (r : Row) (able : Able s) (quiet : alarm (s .n) (r .k1
           }
 
   -- with section 0 failed, as the cause says
-  pub failed-sends : (shows : Request) → carries requests (s .n) (x .code) (x .channel) ≡ true
+  pub failed-sends : (hold : Bool) (shows : Request) → carries requests (s .n) (x .code) (x .channel) ≡ true
       → hiddenIn s x (r .sentK2) ≡ true
-      → LeadsTo (shownIn shows true) (recordAfter s now0 idleK1 idleK2 (r .sentK1))
+      → LeadsTo (shownIn hold shows true) (recordAfter s now0 idleK1 idleK2 (r .sentK1))
   unfolding accepting
-  failed-sends shows carry h =
+  failed-sends hold shows carry h =
       let both = and-eq-true-iff (unseen (commanded (held last) (held x)) x) (secondFits (r .sentK2) 0) .0 h in
       let by =
-      hidden-shown (s .n) (s .mask) (s .w) (s .left) last shows (held last) (held x) x carry
+      hidden-shown (s .n) (s .mask) (s .w) (s .left) last hold shows (held last) (held x) x carry
       record { before = refl; possible = both .0; afterwards = refl } in
-      caused-sends true (shownIn shows true) by (rw (bridge-none (x .channel) (keepsBridge x)) (both .1))
+      caused-sends true (shownIn hold shows true) by (rw (bridge-none (x .channel) (keepsBridge x)) (both .1))
 
   -- and with it not failed; `shows` as in OneStep
-  pub open-sends : (shows : Request) → (far false ≡ shows) ⊎ (mayWin (rankOfRequest (far false)) ≡ false)
+  pub open-sends : (hold : Bool) (shows : Request) → (far false ≡ shows) ⊎ (mayWin (rankOfRequest (far false)) ≡ false)
       → carries requests (s .n) (x .code) (x .channel) ≡ true → opens (farK1 false) x (r .sentK2) local ≡ true
-      → LeadsTo (shownIn shows false) (recordAfter s now0 (farK1 false) (farK2 false) (r .sentK1))
-  open-sends shows which carry h =
+      → LeadsTo (shownIn hold shows false) (recordAfter s now0 (farK1 false) (farK2 false) (r .sentK1))
+  open-sends hold shows which carry h =
       let here = subst OpenBy (sym (far-asked false)) h in
       let both =
       and-eq-true-iff (answers (far false) x local)
       (secondFits (r .sentK2) (bridge (far false .channel) (x .channel) (keepsBridge x))) .0 here in
       let by =
-      open-shown (s .n) (s .mask) (s .w) (s .left) last (far false) shows (held last) (held x) x which carry
+      open-shown (s .n) (s .mask) (s .w) (s .left) last hold (far false) shows (held last) (held x) x which carry
       record { before = refl; possible = both .0; afterwards = refl } in
-      caused-sends false (shownIn shows false) by (both .1)
+      caused-sends false (shownIn hold shows false) by (both .1)

@@ -13,7 +13,7 @@ use Rattle.request.specs.Order.{same}
 use Rattle.request.specs.declared.Request.{Request}
 use Rattle.request.proofs.Order.{or-true}
 use Rattle.controller.specs.Rules.{asked, rankOfRequest, held, isWait, leftAfter}
-use Rattle.controller.specs.Settings.{idleK1}
+use Rattle.controller.specs.Settings.{idleK1, noneHeld}
 use Rattle.controller.specs.Step.{waitOf}
 use Rattle.controller.specs.declared.Controller.{Controller}
 use Rattle.explain.specs.Cause.{commanded, follows, conditioned, waited, arises, unseen, isLocal, mayHide}
@@ -153,12 +153,14 @@ module _ (d : Records) (r : Row) (goes : live (next d r) ≡ true)
         controller =
             record {
               n = s .n;
+              hold = s .hold;
               mask = s .mask;
               w = s .w;
               k1 = t .k1;
               k2 = t .k2;
               sent = r .sentK1;
               left = left i;
+              held = noneHeld;
             };
         heard = heard-twice carried quiet (opens k1 x (r .sentK2) (localIn s x)) fits (d .heard) i;
         idle = idle-twice carried (quiet && not fits && opens idleK1 x (r .sentK2) (localIn s x)) (d .idle) (hiddenIn s x (r .sentK2)) i;

@@ -18,13 +18,14 @@ use Rattle.controller.specs.Settings.{high}
 use Rattle.controller.specs.Rules.{noRequest, rankOfRequest, isCommand, held, isClear, given, replacesHeld, failCode, degradeCode}
 use Rattle.controller.specs.Rules.{condition, conditionsFrom, waiting}
 use Rattle.controller.specs.Step.{protection}
-use Rattle.controller.proofs.Apart.{none-rank, held-kind, given-kind}
+use Rattle.controller.proofs.Apart.{none-rank, command-cases, held-kind, given-kind}
+use Rattle.controller.proofs.Ranking.{section-rank}
 use Rattle.controller.proofs.Candidates.{candidate-split, local-one, local-above}
 use Rattle.controller.proofs.Sections.{conditions-asked}
 use Rattle.explain.specs.Cause.{commanded, conditioned, waited, arises, unseen}
-use Rattle.explain.proofs.Ranking.{section-rank, rank-cases, fail-rank}
+use Rattle.explain.proofs.Ranking.{rank-cases, fail-rank}
 use Rattle.explain.proofs.Local.{standsOf, nowOf, wait-unclear, nearOf, Local, wait-below}
-use Rattle.explain.proofs.Commands.{command-cases, commanded-by, commanded-of}
+use Rattle.explain.proofs.Commands.{commanded-by, commanded-of}
 
 -- of the four parts of the closed form one is enough
 pub one-part : (a b c d : Bool) → (a ≡ true) ⊎ (b ≡ true) ⊎ (c ≡ true) ⊎ (d ≡ true) → a || b || c || d ≡ true

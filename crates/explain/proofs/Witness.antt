@@ -22,14 +22,14 @@ use Rattle.controller.specs.Rules.{isCommand, held, replacesHeld, condition}
 use Rattle.controller.specs.Rules.{isFailOrDegrade, isWait, waiting}
 use Rattle.controller.specs.Refusals.{channelFits}
 use Rattle.controller.specs.Step.{protection}
-use Rattle.controller.proofs.Apart.{none-rank}
+use Rattle.controller.proofs.Apart.{none-rank, command-cases}
+use Rattle.controller.proofs.Ranking.{section-rank, on-section, on-protection}
 use Rattle.controller.proofs.Candidates.{local-one}
 use Rattle.explain.specs.Explained.{Cause}
 use Rattle.explain.specs.Cause.{commanded, conditioned, waited, arises, unseen, only, badFor, louder, deciding, commandNumber}
 use Rattle.explain.specs.Cause.{commandFor, channelFor, isLouder, causeFor}
-use Rattle.explain.proofs.Ranking.{section-rank, on-section, on-protection}
 use Rattle.explain.proofs.Ranking.{fail-rank, degrade-rank}
-use Rattle.explain.proofs.Commands.{command-cases, command-code, Command, a-command, commanded-by}
+use Rattle.explain.proofs.Commands.{command-code, Command, a-command, commanded-by}
 use Rattle.explain.proofs.Single.{only-good}
 use Rattle.explain.proofs.Local as rules
 
@@ -54,13 +54,13 @@ module _ (mask w left : ℕ) (last : Request) where
   Under = rules.Under mask w left last
 
   -- the cause that is shown
-  abbrev pub shown : ℕ → Request → Bool → Request → Cause
-  shown n far failed x = causeFor n mask (nowOf 0) last far failed x
+  abbrev pub shown : ℕ → Bool → Request → Bool → Request → Cause
+  shown n hold far failed x = causeFor n hold mask (nowOf 0) last far failed x
 
   -- Without a new command: a clear where the held command or the wait would be as loud as this rank.
-  module _ (rank : ℕ) where
+  module _ (hold : Bool) (rank : ℕ) where
     abbrev loud : Bool
-    loud = louder rank (rankOfRequest (held last)) (nowOf 0)
+    loud = louder hold rank (rankOfRequest (held last)) (nowOf 0)
 
     abbrev pub clearing : ℕ
     clearing = if loud then 1 else 0
@@ -70,14 +70,14 @@ module _ (mask w left : ℕ) (last : Request) where
     Below y = (y ≡ noRequest) ⊎ (rankOfRequest y < rank)
 
     -- the held command goes on, if it has a rank
-    held-stands : (t : Bool) → ltb 0 (rankOfRequest (held last)) ≡ t → t && leb rank (rankOfRequest (held last)) ≡ false
-        → Below (standsOf 0 0)
+    held-stands : (t : Bool) → ltb 0 (rankOfRequest (held last)) ≡ t
+        → t && (hold || leb rank (rankOfRequest (held last))) ≡ false → Below (standsOf 0 0)
     held-stands true some quiet =
         let has = ltb-true 0 (rankOfRequest (held last)) some in
         let none : eqb (rankOfRequest (held last)) 0 ≡ false = ne-eqb (rankOfRequest (held last)) 0 (omega arith) in
         let below : ltb (rankOfRequest (held last)) (rankOfRequest noRequest) ≡ false =
         le-ltb (rankOfRequest (held last)) (rankOfRequest noRequest) (rw none-rank zero-le) in
-        let less = leb-false rank (rankOfRequest (held last)) quiet in
+        let less = leb-false rank (rankOfRequest (held last)) (or-false hold (leb rank (rankOfRequest (held last))) quiet .1) in
         inr (rw (none, below) less)
     held-stands false none quiet =
         let zero : rankOfRequest (held last) ≡ 0 =
@@ -99,7 +99,8 @@ module _ (mask w left : ℕ) (last : Request) where
         go true e = rw e (inl (rules.clear-stands mask w left last), inl refl)
         go false e =
             let both =
-            or-false (ltb 0 (rankOfRequest (held last)) && leb rank (rankOfRequest (held last))) (ltb 0 (nowOf 0) && leb rank 2) e in
+            or-false (ltb 0 (rankOfRequest (held last)) && (hold || leb rank (rankOfRequest (held last)))) (ltb 0 (nowOf 0) && leb rank 2)
+            e in
             rw e
             (held-stands (ltb 0 (rankOfRequest (held last))) refl (both .0), wait-stands (ltb 0 (nowOf 0)) refl (both .1))
 
@@ -130,10 +131,10 @@ module _ (mask w left : ℕ) (last : Request) where
         }
 
   -- a command that goes on, or a new one that takes the place of the held one
-  record Gives (n command channel : ℕ) (x : Request) : Type 0 where
-    known : command ≤ 4
-    fits : channelFits n command channel ≡ true
-    stands : standsOf command channel ≡ x
+  pub record Gives (n command channel : ℕ) (x : Request) : Type 0 where
+    pub known : command ≤ 4
+    pub fits : channelFits n command channel ≡ true
+    pub stands : standsOf command channel ≡ x
 
   goes-on : (n : ℕ) (x : Request) → x ≡ held last → 0 < rankOfRequest x → Gives n 0 0 x
   goes-on n x e some =
@@ -159,7 +160,7 @@ module _ (mask w left : ℕ) (last : Request) where
           absurd (false≢true (ap (λ (r : Request). isCommand (r .code)) (sym it) ∙ is))
 
   -- the command that is shown, where one is sent: none, if it was last sent; else it is given
-  by-command : (n : ℕ) (x : Request) → carries requests n (x .code) (x .channel) ≡ true
+  pub by-command : (n : ℕ) (x : Request) → carries requests n (x .code) (x .channel) ≡ true
       → commanded (held last) (held x) ≡ true → (t : Bool)
       → Gives n (commandFor last x t) (channelFor last x) x × (3 ≤ rankOfRequest x)
   by-command n x carried h t = (go (same x last) refl, high)
@@ -203,7 +204,7 @@ module _ (mask w left : ℕ) (last : Request) where
       }
 
   -- while wait remains no command is held
-  held-none : 1 ≤ nowOf 0 → held last ≡ noRequest
+  pub held-none : 1 ≤ nowOf 0 → held last ≡ noRequest
   held-none some = go (isCommand (last .code)) refl
     where
       no : (code : ℕ) → last .code ≡ code → isFailOrDegrade code ≡ false → isWait code ≡ false → ⊥
@@ -234,10 +235,10 @@ module _ (mask w left : ℕ) (last : Request) where
       go e f g h false = rw (e, g)
 
   -- the wait goes on by itself
-  wait-makes : (n : ℕ) (far x : Request) → carries requests n (x .code) (x .channel) ≡ true
-      → waited (nowOf 0) last x ≡ true → Makes n false (shown n far false x) x
+  wait-makes : (n : ℕ) (hold : Bool) (far x : Request) → carries requests n (x .code) (x .channel) ≡ true
+      → waited (nowOf 0) last x ≡ true → Makes n false (shown n hold far false x) x
   unfolding rankOf rankIn heldIn
-  wait-makes n far x carried h =
+  wait-makes n hold far x carried h =
       let remains = and-eq-true-iff (isWait (x .code) && eqb (x .channel) (last .channel)) (leb 1 (nowOf 0)) .0 h in
       let parts = and-eq-true-iff (isWait (x .code)) (eqb (x .channel) (last .channel)) .0 (remains .0) in
       let code : x .code ≡ 0b0110 = eqb-true (x .code) 0b0110 (parts .0) in
@@ -262,82 +263,82 @@ module _ (mask w left : ℕ) (last : Request) where
       } in
       let plain = bad-none x (ap isFailOrDegrade code) in
       let other : isCommand (x .code) ≡ false = ap isCommand code in
-      let command : commandFor last x (isLouder (nowOf 0) last far x) ≡ 0 = rw (other, parts .0) in
+      let command : commandFor last x (isLouder hold (nowOf 0) last far x) ≡ 0 = rw (other, parts .0) in
       let none : channelFor last x ≡ 0 = rw other in
       subst (λ (k : Cause). Makes n false k x)
       (λ i. record { conditions = only (suc n) c (sym plain i); command = sym command i; channel = sym none i }) made
 
   -- the cause where neither a command nor WTR is sent
-  cause-quiet : (n : ℕ) (far : Request) (failed : Bool) (x : Request) → isCommand (x .code) ≡ false → isWait (x .code) ≡ false
-      → shown n far failed x
+  cause-quiet : (n : ℕ) (hold : Bool) (far : Request) (failed : Bool) (x : Request) → isCommand (x .code) ≡ false → isWait (x .code) ≡ false
+      → shown n hold far failed x
       ≡ record {
         conditions = if failed then only (suc n) 0 2 else only (suc n) (x .channel) (badFor mask x);
-        command = clearing (deciding (rankOfRequest far) x (rankOfRequest x));
+        command = clearing hold (deciding (rankOfRequest far) x (rankOfRequest x));
         channel = 0;
       }
-  cause-quiet n far failed x e f = rw (e, f)
+  cause-quiet n hold far failed x e f = rw (e, f)
 
-  none-makes : (n : ℕ) (far : Request) → Makes n false (shown n far false noRequest) noRequest
-  none-makes n far =
+  none-makes : (n : ℕ) (hold : Bool) (far : Request) → Makes n false (shown n hold far false noRequest) noRequest
+  none-makes n hold far =
       let rank = rankOfRequest noRequest in
-      let quiet = quiet-below rank in
-      let nothing : (y : Request) → Below rank y → y ≡ noRequest =
+      let quiet = quiet-below hold rank in
+      let nothing : (y : Request) → Below hold rank y → y ≡ noRequest =
       λ y below. ⊎-elim (λ e. e) (λ (less : rankOfRequest y < rank). absurd (no-less y less)) below in
-      quiet-makes rank n 0 0 noRequest zero-le
-      (rules.near-none mask w left last n (clearing rank) 0 0 0 zero-le (nothing (standsOf (clearing rank) 0) (quiet .0)) refl
-      (nothing (waiting (nowOf (clearing rank)) last) (quiet .1)))
+      quiet-makes hold rank n 0 0 noRequest zero-le
+      (rules.near-none mask w left last n (clearing hold rank) 0 0 0 zero-le (nothing (standsOf (clearing hold rank) 0) (quiet .0)) refl
+      (nothing (waiting (nowOf (clearing hold rank)) last) (quiet .1)))
     where
       no-less : (y : Request) → rankOfRequest y < rankOfRequest noRequest → ⊥
       no-less y less = let none = none-rank in omega arith
 
   -- the condition of a section
-  bad-makes : (n c v : ℕ) (x : Request) → condition mask c v ≡ x → c ≤ n → v ≤ 2 → 0 < rankOfRequest x
-      → Makes n (eqb (protection (only (suc n) c v)) 2) (quietly (rankOfRequest x) n c v) x
-  bad-makes n c v x is within small some =
+  bad-makes : (n : ℕ) (hold : Bool) (c v : ℕ) (x : Request) → condition mask c v ≡ x → c ≤ n → v ≤ 2 → 0 < rankOfRequest x
+      → Makes n (eqb (protection (only (suc n) c v)) 2) (quietly hold (rankOfRequest x) n c v) x
+  bad-makes n hold c v x is within small some =
       let rank = rankOfRequest x in
-      let quiet = quiet-below rank in
-      let under : (y : Request) → Below rank y → Under x y =
+      let quiet = quiet-below hold rank in
+      let under : (y : Request) → Below hold rank y → Under x y =
       λ y below. ⊎-elim (λ e. subst (Under x) (sym e) (rules.none-under mask w left last x some)) inr below in
-      quiet-makes rank n c v x small
-      (rules.near-top mask w left last n (clearing rank) 0 c v within x some (under (standsOf (clearing rank) 0) (quiet .0)) (inl is)
-      (under (waiting (nowOf (clearing rank)) last) (quiet .1)) (inr (inl (sym is))))
+      quiet-makes hold rank n c v x small
+      (rules.near-top mask w left last n (clearing hold rank) 0 c v within x some (under (standsOf (clearing hold rank) 0) (quiet .0)) (inl is)
+      (under (waiting (nowOf (clearing hold rank)) last) (quiet .1)) (inr (inl (sym is))))
 
   -- RR to what the far end asks for: what is local is below that
-  pub near-below : (n c : ℕ) (far : Request) → c ≤ n → 0 < rankOfRequest far →
+  pub near-below : (n : ℕ) (hold : Bool) (c : ℕ) (far : Request) → c ≤ n → 0 < rankOfRequest far →
       let rank = rankOfRequest far in
-      rankOfRequest (nearOf (only (suc n) c 0) (clearing rank) 0) < rank
-  near-below n c far within some =
+      rankOfRequest (nearOf (only (suc n) c 0) (clearing hold rank) 0) < rank
+  near-below n hold c far within some =
       let rank = rankOfRequest far in
-      let quiet = quiet-below rank in
-      let near = nearOf (only (suc n) c 0) (clearing rank) 0 in
-      let stands = standsOf (clearing rank) 0 in
-      let wait = waiting (nowOf (clearing rank)) last in
+      let quiet = quiet-below hold rank in
+      let near = nearOf (only (suc n) c 0) (clearing hold rank) 0 in
+      let stands = standsOf (clearing hold rank) 0 in
+      let wait = waiting (nowOf (clearing hold rank)) last in
       let none : (y : Request) → y ≡ noRequest → rankOfRequest y < rank =
       λ y e. subst (λ (z : Request). rankOfRequest z < rank) (sym e) (rw none-rank some) in
-      let less : (y : Request) → Below rank y → rankOfRequest y < rank = λ y below. ⊎-elim (none y) (λ h. h) below in
+      let less : (y : Request) → Below hold rank y → rankOfRequest y < rank = λ y below. ⊎-elim (none y) (λ h. h) below in
       let one : (near ≡ stands) ⊎ ((near ≡ noRequest) ⊎ (near ≡ noRequest)) ⊎ (near ≡ wait) → rankOfRequest near < rank =
       ⊎-elim (λ e. subst (λ (z : Request). rankOfRequest z < rank) (sym e) (less stands (quiet .0)))
       (⊎-elim (⊎-elim (none near) (none near))
       (λ e. subst (λ (z : Request). rankOfRequest z < rank) (sym e) (less wait (quiet .1)))) in
-      ⊎-elim (none near) (λ among. one (rules.sources mask w left last n (clearing rank) 0 c 0 within near among))
+      ⊎-elim (none near) (λ among. one (rules.sources mask w left last n (clearing hold rank) 0 c 0 within near among))
       (local-one mask (protection (only (suc n) c 0)) (drop 1 (only (suc n) c 0)) stands wait last)
 
   -- the cause where RR is sent
-  pub reverse-makes : (n : ℕ) (far x : Request) → x .code ≡ reverseCode →
+  pub reverse-makes : (n : ℕ) (hold : Bool) (far x : Request) → x .code ≡ reverseCode →
       let rank = rankOfRequest far in
-      Makes n false (shown n far false x) (nearOf (only (suc n) (x .channel) 0) (clearing rank) 0)
-  reverse-makes n far x code =
+      Makes n false (shown n hold far false x) (nearOf (only (suc n) (x .channel) 0) (clearing hold rank) 0)
+  reverse-makes n hold far x code =
       let c = x .channel in
       let rank = rankOfRequest far in
       let bad = bad-none x (ap isFailOrDegrade code) in
       let decides : deciding rank x (rankOfRequest x) ≡ rank = rw code in
-      let cause : shown n far false x ≡ quietly rank n c 0 =
-      cause-quiet n far false x (ap isCommand code) (ap isWait code)
-      ∙ (λ i. record { conditions = only (suc n) c (bad i); command = clearing (decides i); channel = 0 }) in
-      let near = nearOf (only (suc n) c 0) (clearing rank) 0 in
-      subst (λ (t : Bool). Makes n t (shown n far false x) near) (only-good n c 0 (inl refl))
+      let cause : shown n hold far false x ≡ quietly hold rank n c 0 =
+      cause-quiet n hold far false x (ap isCommand code) (ap isWait code)
+      ∙ (λ i. record { conditions = only (suc n) c (bad i); command = clearing hold (decides i); channel = 0 }) in
+      let near = nearOf (only (suc n) c 0) (clearing hold rank) 0 in
+      subst (λ (t : Bool). Makes n t (shown n hold far false x) near) (only-good n c 0 (inl refl))
       (subst (λ (k : Cause). Makes n (eqb (protection (only (suc n) c 0)) 2) k near) (sym cause)
-      (quiet-makes rank n c 0 near zero-le refl))
+      (quiet-makes hold rank n c 0 near zero-le refl))
 
   -- the code of a condition is none of these
   record Asks (code : ℕ) : Type 0 where
@@ -354,23 +355,23 @@ module _ (mask w left : ℕ) (last : Request) where
   degrade-asks false = record { command = refl; wait = refl; reverse = refl }
 
   -- by the condition v of its own section
-  section-makes : (n : ℕ) (far x : Request) → carries requests n (x .code) (x .channel) ≡ true → (v : ℕ)
+  section-makes : (n : ℕ) (hold : Bool) (far x : Request) → carries requests n (x .code) (x .channel) ≡ true → (v : ℕ)
       → condition mask (x .channel) v ≡ x → Asks (x .code) → badFor mask x ≡ v → v ≤ 2 → 0 < rankOfRequest x
-      → (eqb v 2 ≡ false) ⊎ (1 ≤ x .channel) → Makes n false (shown n far false x) x
-  section-makes n far x carried v is asks bad small some good =
+      → (eqb v 2 ≡ false) ⊎ (1 ≤ x .channel) → Makes n false (shown n hold far false x) x
+  section-makes n hold far x carried v is asks bad small some good =
       let c = x .channel in
       let within = carried-within requests n (x .code) c carried in
       let decides : deciding (rankOfRequest far) x (rankOfRequest x) ≡ rankOfRequest x = rw (asks .reverse) in
-      let cause : shown n far false x ≡ quietly (rankOfRequest x) n c v =
-      cause-quiet n far false x (asks .command) (asks .wait)
-      ∙ (λ i. record { conditions = only (suc n) c (bad i); command = clearing (decides i); channel = 0 }) in
-      subst (λ (t : Bool). Makes n t (shown n far false x) x) (only-good n c v good)
+      let cause : shown n hold far false x ≡ quietly hold (rankOfRequest x) n c v =
+      cause-quiet n hold far false x (asks .command) (asks .wait)
+      ∙ (λ i. record { conditions = only (suc n) c (bad i); command = clearing hold (decides i); channel = 0 }) in
+      subst (λ (t : Bool). Makes n t (shown n hold far false x) x) (only-good n c v good)
       (subst (λ (k : Cause). Makes n (eqb (protection (only (suc n) c v)) 2) k x) (sym cause)
-      (bad-makes n c v x is within small some))
+      (bad-makes n hold c v x is within small some))
 
-  condition-makes : (n : ℕ) (far x : Request) → carries requests n (x .code) (x .channel) ≡ true
-      → conditioned mask x ≡ true → Makes n false (shown n far false x) x
-  condition-makes n far x carried h = go (eqb (x .code) (degradeCode isHigh)) refl h
+  condition-makes : (n : ℕ) (hold : Bool) (far x : Request) → carries requests n (x .code) (x .channel) ≡ true
+      → conditioned mask x ≡ true → Makes n false (shown n hold far false x) x
+  condition-makes n hold far x carried h = go (eqb (x .code) (degradeCode isHigh)) refl h
     where
       c : ℕ
       c = x .channel
@@ -379,18 +380,18 @@ module _ (mask w left : ℕ) (last : Request) where
       isHigh = high mask (x .channel)
 
       go : (t : Bool) → eqb (x .code) (degradeCode isHigh) ≡ t → t || leb 1 c && eqb (x .code) (failCode isHigh) ≡ true
-          → Makes n false (shown n far false x) x
+          → Makes n false (shown n hold far false x) x
       go true e k =
           let code : x .code ≡ degradeCode isHigh = eqb-true (x .code) (degradeCode isHigh) e in
           let is : condition mask c 1 ≡ x = λ i. record { code = sym code i; channel = c } in
-          section-makes n far x carried 1 is (subst Asks (sym code) (degrade-asks isHigh)) (rw e) (lit≤ tt)
+          section-makes n hold far x carried 1 is (subst Asks (sym code) (degrade-asks isHigh)) (rw e) (lit≤ tt)
           (rw (← is) (degrade-rank mask c)) (inl refl)
       go false e k =
           let both = and-eq-true-iff (leb 1 c) (eqb (x .code) (failCode isHigh)) .0 k in
           let some = leb-true 1 c (both .0) in
           let code : x .code ≡ failCode isHigh = eqb-true (x .code) (failCode isHigh) (both .1) in
           let is : condition mask c 2 ≡ x = λ i. record { code = sym code i; channel = c } in
-          section-makes n far x carried 2 is (subst Asks (sym code) (fail-asks isHigh)) (rw (e, both .1)) (lit≤ tt)
+          section-makes n hold far x carried 2 is (subst Asks (sym code) (fail-asks isHigh)) (rw (e, both .1)) (lit≤ tt)
           (rw (← is) (fail-rank isHigh c some .0)) (inr some)
 
   -- no condition asks for a command
@@ -403,37 +404,37 @@ module _ (mask w left : ℕ) (last : Request) where
       go (inr (inr ms)) = bad-none x (ap isFailOrDegrade ms)
 
   -- what arises is made the local request by the cause that is shown
-  pub arises-makes : (n : ℕ) (far x : Request) → carries requests n (x .code) (x .channel) ≡ true
-      → arises mask (commanded (held last) (held x)) (nowOf 0) last x ≡ true → Makes n false (shown n far false x) x
+  pub arises-makes : (n : ℕ) (hold : Bool) (far x : Request) → carries requests n (x .code) (x .channel) ≡ true
+      → arises mask (commanded (held last) (held x)) (nowOf 0) last x ≡ true → Makes n false (shown n hold far false x) x
   unfolding arises heldIn
-  arises-makes n far x carried h =
+  arises-makes n hold far x carried h =
       go (eqb (x .code) 0b0000) (commanded (held last) (held x)) (conditioned mask x) refl refl refl h
     where
       go : (none command section : Bool) → eqb (x .code) 0b0000 ≡ none → commanded (held last) (held x) ≡ command
           → conditioned mask x ≡ section → none || command || section || waited (nowOf 0) last x ≡ true
-          → Makes n false (shown n far false x) x
+          → Makes n false (shown n hold far false x) x
       go true command section e f g k =
           let code : x .code ≡ 0b0000 = eqb-true (x .code) 0b0000 e in
           let channel : x .channel ≡ 0 = on-protection n 0b0000 (x .channel) refl (rw code at carried) in
           let is : noRequest ≡ x = λ i. record { code = sym code i; channel = sym channel i } in
-          subst (λ (y : Request). Makes n false (shown n far false y) y) is (none-makes n far)
+          subst (λ (y : Request). Makes n false (shown n hold far false y) y) is (none-makes n hold far)
       go false true section e f g k =
-          let by = by-command n x carried f (isLouder (nowOf 0) last far x) in
+          let by = by-command n x carried f (isLouder hold (nowOf 0) last far x) in
           let high = by .1 in
           let c = x .channel in
           let within = carried-within requests n (x .code) c carried in
           let made = command-makes n c 0 _ _ x within (by .0) high zero-le (rules.none-under mask w left last x (omega arith)) in
           rw (command-good x (commanded-by (held last) x f .0))
-          (subst (λ (t : Bool). Makes n t record { conditions = only (suc n) c 0; command = commandFor last x (isLouder (nowOf 0) last far x); channel = channelFor last x } x)
+          (subst (λ (t : Bool). Makes n t record { conditions = only (suc n) c 0; command = commandFor last x (isLouder hold (nowOf 0) last far x); channel = channelFor last x } x)
           (only-good n c 0 (inl refl)) made)
-      go false false true e f g k = condition-makes n far x carried g
-      go false false false e f g k = wait-makes n far x carried k
+      go false false true e f g k = condition-makes n hold far x carried g
+      go false false false e f g k = wait-makes n hold far x carried k
 
   -- and so is what section 0, failed, makes of it
-  pub unseen-makes : (n : ℕ) (far x : Request) → carries requests n (x .code) (x .channel) ≡ true
-      → unseen (commanded (held last) (held x)) x ≡ true → Makes n true (shown n far true x) x
+  pub unseen-makes : (n : ℕ) (hold : Bool) (far x : Request) → carries requests n (x .code) (x .channel) ≡ true
+      → unseen (commanded (held last) (held x)) x ≡ true → Makes n true (shown n hold far true x) x
   unfolding unseen rankOf rankIn
-  unseen-makes n far x carried h =
+  unseen-makes n hold far x carried h =
       let parts =
       and-eq-true-iff (eqb (x .channel) 0)
       (eqb (x .code) 0b1101 || eqb (x .code) 0b1111 && commanded (held last) (held x)) .0 h in
@@ -442,12 +443,12 @@ module _ (mask w left : ℕ) (last : Request) where
       (λ sf.
       let code : x .code ≡ 0b1101 = eqb-true (x .code) 0b1101 sf in
       let is : condition mask 0 2 ≡ x = λ i. record { code = sym code i; channel = sym zero i } in
-      subst (λ (y : Request). Makes n true (shown n far true y) y) is
-      (bad-makes n 0 2 (condition mask 0 2) refl zero-le (lit≤ tt) (lit< tt)))
+      subst (λ (y : Request). Makes n true (shown n hold far true y) y) is
+      (bad-makes n hold 0 2 (condition mask 0 2) refl zero-le (lit≤ tt) (lit< tt)))
       (λ lo.
       let both = and-eq-true-iff (eqb (x .code) 0b1111) (commanded (held last) (held x)) .0 lo in
       let code : x .code ≡ 0b1111 = eqb-true (x .code) 0b1111 (both .0) in
-      let by = by-command n x carried (both .1) (isLouder (nowOf 0) last far x) in
+      let by = by-command n x carried (both .1) (isLouder hold (nowOf 0) last far x) in
       let top : rankOfRequest (condition mask 0 2) < rankOfRequest x = rw (code, zero) (lit< tt) in
       command-makes n 0 2 _ _ x zero-le (by .0) (by .1) (lit≤ tt) (inr top))
       (or-true (eqb (x .code) 0b1101) (eqb (x .code) 0b1111 && commanded (held last) (held x)) (parts .1))

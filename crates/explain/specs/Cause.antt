@@ -14,19 +14,19 @@ use Rattle.explain.specs.Explained.{Cause}
 
 -- a command goes on, or its rank lets it replace the one that was held
 abbrev pub follows : Bool → ℕ → ℕ → Bool
-follows goesOn prior rank = goesOn || replaces prior rank
+follows goesOn old rank = goesOn || replaces old rank
 
 -- a command is held afterwards, and follows
 abbrev pub commandedAt : ℕ → Request → Request → Bool
-commandedAt rank hold after =
-    not (eqb (after .code) nothingCode) && follows (same after hold) (rankOfRequest hold) rank
+commandedAt rank prior after =
+    not (eqb (after .code) nothingCode) && follows (same after prior) (rankOfRequest prior) rank
 
 abbrev pub commanded : Request → Request → Bool
-commanded hold after = commandedAt (rankOfRequest after) hold after
+commanded prior after = commandedAt (rankOfRequest after) prior after
 
 -- the rank of a held command, where this is what it would have
 abbrev pub rankHeld : Request → ℕ → ℕ
-rankHeld hold rank = if eqb (hold .code) nothingCode then 0 else rank
+rankHeld prior rank = if eqb (prior .code) nothingCode then 0 else rank
 
 -- a degraded section asks for it, or a failed one but section 0
 abbrev pub conditioned : ℕ → Request → Bool
@@ -87,9 +87,10 @@ isNew last x = not (eqb (held x .code) nothingCode) && not (same x last)
 abbrev pub goesOn : Request → Bool
 goesOn x = not (eqb (held x .code) nothingCode) || isWait (x .code)
 
--- without a clear the held command, of rank `prior`, or the wait, of rank 2, would be at least as loud as this rank
-abbrev pub louder : ℕ → ℕ → ℕ → Bool
-louder rank prior now = ltb 0 prior && leb rank prior || ltb 0 now && leb rank 2
+-- without a clear the held command, of rank `prior`, or the wait, of rank 2, would be at least as loud as this rank; with hold
+-- a command that is less loud has to be dropped too, since it would come back (02, g)
+abbrev pub louder : Bool → ℕ → ℕ → ℕ → Bool
+louder hold rank prior now = ltb 0 prior && (hold || leb rank prior) || ltb 0 now && leb rank 2
 
 -- the rank that decides: that of what the far end asks for, if RR is sent; else that of what is sent
 abbrev pub deciding : ℕ → Request → ℕ → ℕ
@@ -113,15 +114,15 @@ abbrev pub channelFor : Request → Request → ℕ
 channelFor last x = if isNew last x then x .channel else 0
 
 -- whether something would be louder than what decides
-abbrev pub isLouder : ℕ → Request → Request → Request → Bool
-isLouder now last far x =
-    louder (deciding (rankOfRequest far) x (rankOfRequest x)) (rankOfRequest (held last)) now
+abbrev pub isLouder : Bool → ℕ → Request → Request → Request → Bool
+isLouder hold now last far x =
+    louder hold (deciding (rankOfRequest far) x (rankOfRequest x)) (rankOfRequest (held last)) now
 
 -- section 0 failed, or the one section whose request is sent
-abbrev pub causeFor : ℕ → ℕ → ℕ → Request → Request → Bool → Request → Cause
-causeFor n mask now last far failed x =
+abbrev pub causeFor : ℕ → Bool → ℕ → ℕ → Request → Request → Bool → Request → Cause
+causeFor n hold mask now last far failed x =
     record {
       conditions = if failed then only (suc n) 0 2 else only (suc n) (x .channel) (badFor mask x);
-      command = commandFor last x (isLouder now last far x);
+      command = commandFor last x (isLouder hold now last far x);
       channel = channelFor last x;
     }

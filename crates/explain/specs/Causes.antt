@@ -42,8 +42,8 @@ causesFaults n mask size room room2 = judgeFaults n mask size ++ roomFaults (siz
 
 -- explained: under the causes in the first words, one a step, the controller sends the rows; what stands behind them is as it
 -- was
-pub record Shown (n mask w : ℕ) (rows : List Row) (old old2 new new2 : List ℕ) : Type 0 where
-  pub explains : Explains (fresh n mask w) (causesIn n (take (length rows) new) (take (length rows) new2)) rows
+pub record Shown (n : ℕ) (hold : Bool) (mask w : ℕ) (rows : List Row) (old old2 new new2 : List ℕ) : Type 0 where
+  pub explains : Explains (fresh n hold mask w) (causesIn n (take (length rows) new) (take (length rows) new2)) rows
   pub no-other-bit : every (noOtherBit n) (take (length rows) new) ≡ true
   pub conditions-behind : drop (length rows) new ≡ drop (length rows) old
   pub commands-behind : drop (length rows) new2 ≡ drop (length rows) old2
@@ -53,14 +53,15 @@ abbrev pub Untouched : List ℕ → List ℕ → List ℕ → List ℕ → Type 
 Untouched old old2 new new2 = (new ≡ old) × (new2 ≡ old2)
 
 -- the tables afterwards, of conditions and of commands, by the verdict
-abbrev pub Filled : ℕ → ℕ → ℕ → List ℕ → Judging → List ℕ → List ℕ → List ℕ → List ℕ → Type 0
-Filled n mask w bytes j old old2 new new2 =
-    if eqb (j .verdict) 1 then Shown n mask w (rowsOf bytes) old old2 new new2 else Untouched old old2 new new2
+abbrev pub Filled : ℕ → Bool → ℕ → ℕ → List ℕ → Judging → List ℕ → List ℕ → List ℕ → List ℕ → Type 0
+Filled n hold mask w bytes j old old2 new new2 =
+    if eqb (j .verdict) 1 then Shown n hold mask w (rowsOf bytes) old old2 new new2 else Untouched old old2 new new2
 
 -- what is promised: the judge's right answer behind these refusals, and the tables by it
-pub record Causes (n mask w : ℕ) (bytes old old2 : List ℕ) (j : Judging) (new new2 : List ℕ) : Type 0 where
-  pub verdict : RightBehind (causesFaults n mask (length bytes) (length old) (length old2)) n mask w bytes j
-  pub tables : Filled n mask w bytes j old old2 new new2
+pub record Causes (n : ℕ) (hold : Bool) (mask w : ℕ) (bytes old old2 : List ℕ) (j : Judging) (new new2 : List ℕ)
+    : Type 0 where
+  pub verdict : RightBehind (causesFaults n mask (length bytes) (length old) (length old2)) n hold mask w bytes j
+  pub tables : Filled n hold mask w bytes j old old2 new new2
 
 -- the entries of a table that are never chosen: those from the steps on, if the capture is explained, else all
 abbrev pub fixedIn : Judging → List ℕ → List ℕ

@@ -1,5 +1,6 @@
 -- What it is for a row of steps to be explained (demand 3).
 use mathlib.Core.Path.{_≡_}
+use mathlib.Core.Bool.{Bool}
 use mathlib.Core.List.{List, [], _∷_}
 use Prim.Native.Nat.{ℕ}
 use Rattle.controller.specs.Settings.{fresh}
@@ -32,6 +33,6 @@ Explains s (cause ∷ causes) (r ∷ rows) =
 Explains s [] (r ∷ rows) = ⊥
 Explains s (cause ∷ causes) [] = ⊥
 
--- some sequence of causes explains the row of steps, from a fresh record
-abbrev pub Explained : ℕ → ℕ → ℕ → List Row → Type 0
-Explained n mask w rows = (causes : List Cause) × Explains (fresh n mask w) causes rows
+-- some sequence of causes explains the row of steps, from a fresh record, with hold or without
+abbrev pub Explained : ℕ → Bool → ℕ → ℕ → List Row → Type 0
+Explained n hold mask w rows = (causes : List Cause) × Explains (fresh n hold mask w) causes rows

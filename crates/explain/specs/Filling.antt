@@ -47,11 +47,11 @@ conditionsKept s heard sentK1 =
     let x = asked sentK1 in
     withMarks (badFor (s .mask) x * 4 ^ (x .channel)) heard (mayHide x)
 
-abbrev pub commandKept : Controller → ℕ → ℕ → ℕ
-commandKept s k1 sentK1 =
+abbrev pub commandKept : Bool → Controller → ℕ → ℕ → ℕ
+commandKept hold s k1 sentK1 =
     let x = asked sentK1 in
     let last = asked (s .sent) in
-    let loud = isLouder (waitOf s last 0) last (asked k1) x in
+    let loud = isLouder hold (waitOf s last 0) last (asked k1) x in
     256 * commandFor last x loud + channelFor last x
 
 -- The scan of a capture that is explained, but for the flag of 00 08: what is sent is known to be possible.
@@ -74,8 +74,8 @@ along f d (r ∷ rows) = f d r ∷ along f (next d r) rows
 abbrev pub conditionsAlong : Records → List Row → List ℕ
 conditionsAlong = along (λ d r. conditionsKept (d .controller) (d .heard) (r .sentK1))
 
-abbrev pub commandsAlong : Records → List Row → List ℕ
-commandsAlong = along (λ d r. commandKept (d .controller) (next d r .controller .k1) (r .sentK1))
+abbrev pub commandsAlong : Bool → Records → List Row → List ℕ
+commandsAlong hold = along (λ d r. commandKept hold (d .controller) (next d r .controller .k1) (r .sentK1))
 
 abbrev pub ended : Records → List Row → Records
 ended d [] = d
@@ -118,6 +118,6 @@ pub record Keeps (d : Records) (bytes : List ℕ) (steps room room2 : ℕ) : Typ
 abbrev pub filledSteps : Judging → ℕ → ℕ
 filledSteps j steps = if eqb (j .verdict) 1 then steps else 0
 
-pub record Fills (d : Records) (rows : List Row) (old old2 new new2 : List ℕ) : Type 0 where
+pub record Fills (hold : Bool) (d : Records) (rows : List Row) (old old2 new new2 : List ℕ) : Type 0 where
   pub conditions : Stored (length rows) (settled (not (ended d rows .heard)) (conditionsAlong d rows)) old new
-  pub commands : Stored (length rows) (commandsAlong d rows) old2 new2
+  pub commands : Stored (length rows) (commandsAlong hold d rows) old2 new2

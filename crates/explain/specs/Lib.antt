@@ -5,6 +5,7 @@ pub mod Verdict
 pub mod Lines
 pub mod Causes
 -- Need not be believed: what the judge computes, as the contracts inside the crate cite it. That it is exact is proved.
+pub mod Hold
 pub mod Cause
 pub mod Trace
 pub mod Scan

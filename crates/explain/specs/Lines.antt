@@ -1,4 +1,5 @@
--- The judge lines of document 01: n = 2, mask 0, W = 3.
+-- The judge lines of document 01: n = 2, mask 0, W = 3, with hold or without.
+use mathlib.Core.Bool.{Bool}
 use mathlib.Core.List.{List, [], _∷_}
 use Prim.Native.Nat.{ℕ}
 use Rattle.explain.specs.Verdict.{Judging, explainedAt, unexplainedAt, Right}
@@ -16,6 +17,6 @@ lines =
     ∷ []
 
 -- each capture of the table has its answer, with n = 2, mask 0, W = 3
-abbrev pub AllRight : List Line → Type 0
-AllRight [] = Unit {0}
-AllRight ((bytes is j) ∷ rest) = Right 2 0 3 bytes j × AllRight rest
+abbrev pub AllRight : Bool → List Line → Type 0
+AllRight hold [] = Unit {0}
+AllRight hold ((bytes is j) ∷ rest) = Right 2 hold 0 3 bytes j × AllRight hold rest

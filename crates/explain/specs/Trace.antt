@@ -1,5 +1,5 @@
--- What the bytes of a capture leave open of the controller's record. The K1 last sent and the wait left follow from what was
--- sent. The accepted pair is the last usable one received or, since section 0 may have failed unseen, 00 08; an alarm that
+-- What the bytes of a capture leave open of the controller's record, without hold, since hold changes no verdict (02, g; the
+-- front door's `hold-exact`). The K1 last sent and the wait left follow from what was sent. The accepted pair is the last usable one received or, since section 0 may have failed unseen, 00 08; an alarm that
 -- is received shows that it has failed.
 use mathlib.Core.Path.{_≡_}
 use mathlib.Core.Bool.{Bool, true, false, not, _&&_, _||_}
@@ -12,7 +12,7 @@ use Rattle.pair.specs.Request.{requests, carries}
 use Rattle.pair.specs.Marks.{channelOf, usable, alarmIn}
 use Rattle.request.specs.Bridge.{bridge}
 use Rattle.request.specs.declared.Request.{Request}
-use Rattle.controller.specs.Settings.{idleK1, idleK2}
+use Rattle.controller.specs.Settings.{idleK1, idleK2, noneHeld}
 use Rattle.controller.specs.Rules.{asked, rankOfRequest, held, isWait, leftAfter, keepsBridge, k2Of}
 use Rattle.controller.specs.Step.{waitOf}
 use Rattle.controller.specs.declared.Controller.{Controller}
@@ -26,7 +26,17 @@ use Rattle.explain.specs.declared.Records.{Records}
 -- the record with 00 08 accepted
 abbrev pub idled : Controller → Controller
 idled s =
-    record { n = s .n; mask = s .mask; w = s .w; k1 = idleK1; k2 = idleK2; sent = s .sent; left = s .left }
+    record {
+      n = s .n;
+      hold = s .hold;
+      mask = s .mask;
+      w = s .w;
+      k1 = idleK1;
+      k2 = idleK2;
+      sent = s .sent;
+      left = s .left;
+      held = s .held;
+    }
 
 abbrev pub start : Controller → Records
 start s = record { controller = s; heard = true; idle = false }
@@ -67,12 +77,14 @@ abbrev pub recordAfter : Controller → ℕ → ℕ → ℕ → ℕ → Controll
 recordAfter s now k1 k2 sentK1 =
     record {
       n = s .n;
+      hold = s .hold;
       mask = s .mask;
       w = s .w;
       k1 = k1;
       k2 = k2;
       sent = sentK1;
       left = leftAfter (asked sentK1) now;
+      held = noneHeld;
     }
 
 -- a byte of the accepted pair: the received one's, if that is usable, else the one before
@@ -133,7 +145,18 @@ abbrev pub withLeft : Records → ℕ → Records
 withLeft d left =
     let s = d .controller in
     record {
-      controller = record { n = s .n; mask = s .mask; w = s .w; k1 = s .k1; k2 = s .k2; sent = s .sent; left = left };
+      controller =
+          record {
+            n = s .n;
+            hold = s .hold;
+            mask = s .mask;
+            w = s .w;
+            k1 = s .k1;
+            k2 = s .k2;
+            sent = s .sent;
+            left = left;
+            held = s .held;
+          };
       heard = d .heard;
       idle = d .idle;
     }

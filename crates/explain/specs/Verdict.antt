@@ -1,5 +1,6 @@
--- What the judge answers (01, 'The judge' and 'Numbered refusals').
+-- What the judge answers (01, 'The judge' and 'Numbered refusals'; 02, g).
 use mathlib.Core.Path.{_≡_}
+use mathlib.Core.Bool.{Bool}
 use mathlib.Core.List.{List, _++_}
 use mathlib.Core.Logic.{_⊎_}
 use Prim.Native.Nat.{ℕ, _+_}
@@ -41,19 +42,19 @@ judgeFaults n mask size = settingsFaults n mask ++ sizeFaults size
 
 -- explained with the number of steps; or unexplained with the number, from 0, of the first step such that the steps up to
 -- and with it have no explanation
-abbrev pub Found : ℕ → ℕ → ℕ → List Row → Judging → Type 0
-Found n mask w rows j =
-    ((j ≡ explainedAt (length rows)) × Explained n mask w rows)
+abbrev pub Found : ℕ → Bool → ℕ → ℕ → List Row → Judging → Type 0
+Found n hold mask w rows j =
+    ((j ≡ explainedAt (length rows)) × Explained n hold mask w rows)
     ⊎ ((i : ℕ)
     × (j ≡ unexplainedAt i)
-    × Explained n mask w (take i rows)
-    × (Explained n mask w (take (i + 1) rows) → ⊥))
+    × Explained n hold mask w (take i rows)
+    × (Explained n hold mask w (take (i + 1) rows) → ⊥))
 
 -- the right answer for a capture, where these are the refusals: the first that applies, or what is found
-unfoldable pub RightBehind : List Check → ℕ → ℕ → ℕ → List ℕ → Judging → Type 0
-RightBehind faults n mask w bytes j =
-    if eqb (firstOf faults) 0 then Found n mask w (rowsOf bytes) j else (j ≡ refusedBy (firstOf faults))
+unfoldable pub RightBehind : List Check → ℕ → Bool → ℕ → ℕ → List ℕ → Judging → Type 0
+RightBehind faults n hold mask w bytes j =
+    if eqb (firstOf faults) 0 then Found n hold mask w (rowsOf bytes) j else (j ≡ refusedBy (firstOf faults))
 
 -- that of the judge
-abbrev pub Right : ℕ → ℕ → ℕ → List ℕ → Judging → Type 0
-Right n mask w bytes j = RightBehind (judgeFaults n mask (length bytes)) n mask w bytes j
+abbrev pub Right : ℕ → Bool → ℕ → ℕ → List ℕ → Judging → Type 0
+Right n hold mask w bytes j = RightBehind (judgeFaults n mask (length bytes)) n hold mask w bytes j

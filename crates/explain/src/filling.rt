@@ -54,16 +54,16 @@ fn conditions_kept(s: Controller, heard: bool, sent1: u8) -> u32
     with_marks(word, heard, may_hide(x))
 }
 
-fn command_kept(table: &[u16; 256], s: Controller, k1: u8, sent1: u8) -> u16
+fn command_kept(table: &[u16; 256], hold: bool, s: Controller, k1: u8, sent1: u8) -> u16
     requires { ⌜ (now table ≡ tableOf requests) × (channelOf (s .sent) ≤ 14) × (channelOf k1 ≤ 14) × (channelOf sent1 ≤ 14) ⌝ }
-    ensures { λ r. ⌜ r ≡ commandKept s k1 sent1 ⌝ }
+    ensures { λ r. ⌜ r ≡ commandKept hold s k1 sent1 ⌝ }
 {
     let last = asked(s.sent);
     let x = asked(sent1);
     let now = wait_of(s, last, 0);
     let prior = rank_held(held(last), rank_at(table, s.sent));
     let rank = deciding(rank_at(table, k1), x, rank_at(table, sent1));
-    command_word(last, x, louder(rank, prior, now))
+    command_word(last, x, louder(hold, rank, prior, now))
 }
 
 // One row of a capture that is known to be explained.
@@ -92,6 +92,7 @@ fn follow(table: &[u16; 256], d: Records, k1: u8, k2: u8, sent1: u8, sent2: u8) 
 
 // Forward over as many steps; answers whether the record with the last usable pair is open at the end.
 fn keep(
+    hold: bool,
     s: Controller,
     capture: &[u8],
     steps: usize,
@@ -101,7 +102,7 @@ fn keep(
     requires { ⌜ Keeps (start s) (now capture) steps (length (now conditions)) (length (now commands)) ⌝ }
     ensures { λ r. ⌜ r ≡ ended (start s) (take steps (rowsOf (now (capture .entry)))) .heard ⌝ }
     ensures { λ _. ⌜ Stored steps (conditionsAlong (start s) (take steps (rowsOf (now (capture .entry))))) (now (conditions .entry)) (now (conditions .exit)) ⌝ }
-    ensures { λ _. ⌜ Stored steps (commandsAlong (start s) (take steps (rowsOf (now (capture .entry))))) (now (commands .entry)) (now (commands .exit)) ⌝ }
+    ensures { λ _. ⌜ Stored steps (commandsAlong hold (start s) (take steps (rowsOf (now (capture .entry))))) (now (commands .entry)) (now (commands .exit)) ⌝ }
 {
     let table = numbers();
     let mut possible = Records {
@@ -122,7 +123,13 @@ fn keep(
             capture[at + 3],
         );
         conditions[step] = conditions_kept(possible.controller, possible.heard, sent1);
-        commands[step] = command_kept(&table, possible.controller, after.controller.k1, sent1);
+        commands[step] = command_kept(
+            &table,
+            hold,
+            possible.controller,
+            after.controller.k1,
+            sent1,
+        );
         possible = after;
         step += 1;
     }
@@ -177,6 +184,7 @@ fn filled_steps(verdict: Verdict, steps: usize) -> usize
 
 // The verdict first, since nothing may be written before it is known; then forward, then back.
 pub(crate) fn fill(
+    hold: bool,
     s: Controller,
     capture: &[u8],
     conditions: &mut [u32],
@@ -184,12 +192,12 @@ pub(crate) fn fill(
 ) -> Verdict
     requires { ⌜ (length (now capture) % 4 ≡ 0) × (length (now capture) ≤ most) × Fit (start s) × (length (now capture) / 4 ≤ length (now conditions)) × (length (now capture) / 4 ≤ length (now commands)) ⌝ }
     ensures { λ r. ⌜ told r ≡ scanned s (now (capture .entry)) ⌝ }
-    ensures { λ r. ⌜ Fills (start s) (take (filledSteps (told r) (length (now (capture .entry)) / 4)) (rowsOf (now (capture .entry)))) (now (conditions .entry)) (now (commands .entry)) (now (conditions .exit)) (now (commands .exit)) ⌝ }
+    ensures { λ r. ⌜ Fills hold (start s) (take (filledSteps (told r) (length (now (capture .entry)) / 4)) (rowsOf (now (capture .entry)))) (now (conditions .entry)) (now (commands .entry)) (now (conditions .exit)) (now (commands .exit)) ⌝ }
 {
     let steps = capture.len() / 4;
     let verdict = scan(s, capture);
     let shown = filled_steps(verdict, steps);
-    let heard = keep(s, capture, shown, conditions, commands);
+    let heard = keep(hold, s, capture, shown, conditions, commands);
     settle(!heard, shown, conditions);
     verdict
 }

@@ -1,4 +1,4 @@
-// The judge of captured lines (01, 'The judge'). It sees bytes alone.
+// The judge of captured lines (01, 'The judge'; 02, g). It sees bytes alone.
 mod cause;
 mod filling;
 mod shown;
@@ -24,10 +24,11 @@ pub enum Verdict {
     Refused(u8),
 }
 
-pub fn judge(n: u8, mask: u16, w: u16, capture: &[u8]) -> Verdict
-    ensures { λ r. ⌜ Right n mask w (now (capture .entry)) (told r) ⌝ }
+// Hold changes no verdict (`hold-exact` at the front door), so the scan goes by the controller without it.
+pub fn judge(n: u8, hold: bool, mask: u16, w: u16, capture: &[u8]) -> Verdict
+    ensures { λ r. ⌜ Right n hold mask w (now (capture .entry)) (told r) ⌝ }
 {
-    match Controller::fresh(n, mask, w) {
+    match Controller::fresh(n, false, mask, w) {
         Made::Fresh(s) => {
             let refusal = size_refusal(capture.len());
             if refusal == 0 {
@@ -58,19 +59,20 @@ fn causes_refusal(size: usize, room: usize, room2: usize) -> u8
 // The judge, which fills the tables of a capture that is explained with causes, one a step (02, a).
 pub fn judge_causes(
     n: u8,
+    hold: bool,
     mask: u16,
     w: u16,
     capture: &[u8],
     conditions: &mut [u32],
     commands: &mut [u16],
 ) -> Verdict
-    ensures { λ r. ⌜ Causes n mask w (now (capture .entry)) (now (conditions .entry)) (now (commands .entry)) (told r) (now (conditions .exit)) (now (commands .exit)) ⌝ }
+    ensures { λ r. ⌜ Causes n hold mask w (now (capture .entry)) (now (conditions .entry)) (now (commands .entry)) (told r) (now (conditions .exit)) (now (commands .exit)) ⌝ }
 {
-    match Controller::fresh(n, mask, w) {
+    match Controller::fresh(n, false, mask, w) {
         Made::Fresh(s) => {
             let refusal = causes_refusal(capture.len(), conditions.len(), commands.len());
             if refusal == 0 {
-                fill(s, capture, conditions, commands)
+                fill(hold, s, capture, conditions, commands)
             } else {
                 Verdict::Refused(refusal)
             }

@@ -34,10 +34,10 @@ pub(crate) fn conditions_word(mask: u16, x: Request) -> u32
     (bad as u32) << (2 * x.channel)
 }
 
-pub(crate) fn louder(rank: u8, prior: u8, now: u16) -> bool
-    ensures { λ r. ⌜ r ≡ louder rank prior now ⌝ }
+pub(crate) fn louder(hold: bool, rank: u8, prior: u8, now: u16) -> bool
+    ensures { λ r. ⌜ r ≡ louder hold rank prior now ⌝ }
 {
-    ((0 < prior) & (rank <= prior)) | ((0 < now) & (rank <= 2))
+    ((0 < prior) & (hold | (rank <= prior))) | ((0 < now) & (rank <= 2))
 }
 
 pub(crate) fn deciding(theirs: u8, x: Request, rank: u8) -> u8

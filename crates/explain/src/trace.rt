@@ -64,12 +64,14 @@ pub(crate) fn record_after(s: Controller, now: u16, k1: u8, k2: u8, sent: u8) ->
     let left = if sent / 16 == WAIT_TO_RESTORE { now } else { 0 };
     Controller {
         n: s.n,
+        hold: s.hold,
         mask: s.mask,
         w: s.w,
         k1,
         k2,
         sent,
         left,
+        held: Controller::NONE_HELD,
     }
 }
 
@@ -186,12 +188,14 @@ fn passed(d: Records, run: u16) -> Records
     Records {
         controller: Controller {
             n: s.n,
+            hold: s.hold,
             mask: s.mask,
             w: s.w,
             k1: s.k1,
             k2: s.k2,
             sent: s.sent,
             left,
+            held: s.held,
         },
         heard: d.heard,
         idle: d.idle,

@@ -166,6 +166,20 @@ module _ (order : Request → Request → Bool) where
         go false e (inr (inl same)) = rw (e, same) (inl e)
         go t e (inr (inr among)) = inr among
 
+    -- the best is what stands if there is none, or beats it
+    pub best-beats : (xs : List Request) (none : Request)
+        → (best order none xs ≡ none) ⊎ (order (best order none xs) none ≡ true)
+    unfolding best
+    best-beats [] none = inl refl
+    best-beats (x ∷ xs) none = go (order x none) refl (best-beats xs x) (best-beats xs none)
+      where
+        go : (t : Bool) → order x none ≡ t → (best order x xs ≡ x) ⊎ (order (best order x xs) x ≡ true)
+            → (best order none xs ≡ none) ⊎ (order (best order none xs) none ≡ true)
+            → (best order none (x ∷ xs) ≡ none) ⊎ (order (best order none (x ∷ xs)) none ≡ true)
+        go true e (inl same) rest = rw (e, same) (inr e)
+        go true e (inr beats) rest = rw e (inr (transitive (best order x xs) x none beats e))
+        go false e first rest = rw e rest
+
     module _ (none x : Request) (above : order x none ≡ true) where
       -- a candidate that beats every other is the best
       pub best-top : (xs : List Request) → ((y : Request) → OneOf y xs → (y ≡ x) ⊎ (order x y ≡ true)) → OneOf x xs

@@ -1,4 +1,5 @@
 -- `judge` meets its contract: refused for the settings, refused for the size, or the scan's verdict, which is right.
+use mathlib.Core.Bool.{false}
 use mathlib.Core.Path.{sym, _∙_}
 use lib.ListN.{length}
 use Rattle.basics.specs.Capture.{sizeFaults}
@@ -24,7 +25,7 @@ scan-requires c κs =
     let size = size-fits (length (a .capture .now)) (sym (c .before .size-refusal .ensures) ∙ c .if1 .taken) in
     let made = c .before .before .before .before .before .fresh .ensures .decided in
     let s = c .before .before .before .s .given in
-    let facts = fresh-facts (a .n) (a .mask) (a .w) (s .0 .0) (sym made ∙ s .1) in
+    let facts = fresh-facts (a .n) false (a .mask) (a .w) (s .0 .0) (sym made ∙ s .1) in
     (size .0, size .1, rw (facts .0) (fresh-fit (a .n) (a .mask) (a .w) (facts .1)))
 
 enum-known-k : tie.Need-enum-known-k
@@ -35,9 +36,9 @@ returns c =
     let a = c .before .before .before .before .before .before .before .before .args in
     let made = c .before .before .before .before .before .before .fresh .ensures .decided in
     let s = c .before .before .before .before .s .given in
-    let facts = fresh-facts (a .n) (a .mask) (a .w) (s .0 .0) (sym made ∙ s .1) in
+    let facts = fresh-facts (a .n) false (a .mask) (a .w) (s .0 .0) (sym made ∙ s .1) in
     let none = sym (c .before .before .size-refusal .ensures) ∙ c .before .if1 .taken in
-    let right = scanned-right (a .n) (a .mask) (a .w) (a .capture .now) (sizeFaults (length (a .capture .now))) (facts .1) (facts .2) none in
+    let right = scanned-right (a .n) (a .hold) (a .mask) (a .w) (a .capture .now) (sizeFaults (length (a .capture .now))) (facts .1) (facts .2) none in
     rw (c .scan .ensures, facts .0) right
 
 returns-2 : tie.Need-returns-2
@@ -45,8 +46,8 @@ returns-2 c =
     let a = c .before .before .before .before .before .before .before .args in
     let made = c .before .before .before .before .before .fresh .ensures .decided in
     let s = c .before .before .before .s .given in
-    let facts = fresh-facts (a .n) (a .mask) (a .w) (s .0 .0) (sym made ∙ s .1) in
-    rest-right (a .n) (a .mask) (a .w) (a .capture .now) (sizeFaults (length (a .capture .now))) (facts .1) (facts .2) _ (c .before .size-refusal .ensures)
+    let facts = fresh-facts (a .n) false (a .mask) (a .w) (s .0 .0) (sym made ∙ s .1) in
+    rest-right (a .n) (a .hold) (a .mask) (a .w) (a .capture .now) (sizeFaults (length (a .capture .now))) (facts .1) (facts .2) _ (c .before .size-refusal .ensures)
     (c .if1 .left)
 
 returns-3 : tie.Need-returns-3
@@ -54,8 +55,8 @@ returns-3 c =
     let a = c .before .before .before .before .before .args in
     let made = c .before .before .before .fresh .ensures .decided in
     let k = c .before .k .given in
-    let facts = refused-facts (a .n) (a .mask) (a .w) (k .0 .0) (sym made ∙ k .1) in
-    settings-right (a .n) (a .mask) (a .w) (a .capture .now) (sizeFaults (length (a .capture .now))) (k .0 .0) (facts .0) (facts .1)
+    let facts = refused-facts (a .n) false (a .mask) (a .w) (k .0 .0) (sym made ∙ k .1) in
+    settings-right (a .n) (a .hold) (a .mask) (a .w) (a .capture .now) (sizeFaults (length (a .capture .now))) (k .0 .0) (facts .0) (facts .1)
 
 pub judge-spec : {M : Type 1} → statement M
 judge-spec =

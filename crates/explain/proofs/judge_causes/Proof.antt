@@ -1,4 +1,5 @@
 -- `judge_causes` meets its contract: refused for the settings, refused for a size, or the scan's verdict with the tables by it.
+use mathlib.Core.Bool.{false}
 use mathlib.Core.Path.{refl, sym, _∙_}
 use lib.ListN.{length}
 use Prim.Native.Nat.{_/_}
@@ -35,7 +36,7 @@ fill-requires c κs =
     let room = room-fits steps (length (a .conditions .now)) (length (a .commands .now)) (parts .1) in
     let made = seen .before .before .before .before .fresh .ensures .decided in
     let s = seen .before .before .s .given in
-    let facts = fresh-facts (a .n) (a .mask) (a .w) (s .0 .0) (sym made ∙ s .1) in
+    let facts = fresh-facts (a .n) false (a .mask) (a .w) (s .0 .0) (sym made ∙ s .1) in
     (size .0, size .1, rw (facts .0) (fresh-fit (a .n) (a .mask) (a .w) (facts .1)), room .0, room .1)
 
 enum-known-k : tie.Need-enum-known-k
@@ -54,10 +55,10 @@ returns c =
     let a = seen .before .before .before .before .before .before .before .before .args in
     let made = seen .before .before .before .before .fresh .ensures .decided in
     let s = seen .before .before .s .given in
-    let facts = fresh-facts (a .n) (a .mask) (a .w) (s .0 .0) (sym made ∙ s .1) in
+    let facts = fresh-facts (a .n) false (a .mask) (a .w) (s .0 .0) (sym made ∙ s .1) in
     let none = sym (seen .causes-refusal .ensures) ∙ filled .before .before .before .if1 .taken in
     let wrote = filled .fill .ensures in
-    scanned-causes (a .n) (a .mask) (a .w) (a .capture .now) (a .conditions .now) (a .commands .now) (facts .1) (facts .2) _ _ none _
+    scanned-causes (a .n) (a .hold) (a .mask) (a .w) (a .capture .now) (a .conditions .now) (a .commands .now) (facts .1) (facts .2) _ _ none _
     (rw (facts .0) at (wrote .0)) (rw (facts .0) at (wrote .1))
 
 returns-2 : tie.Need-returns-2
@@ -66,22 +67,22 @@ returns-2 c =
     let a = seen .before .before .before .before .before .before .before .before .args in
     let made = seen .before .before .before .before .fresh .ensures .decided in
     let s = seen .before .before .s .given in
-    let facts = fresh-facts (a .n) (a .mask) (a .w) (s .0 .0) (sym made ∙ s .1) in
+    let facts = fresh-facts (a .n) false (a .mask) (a .w) (s .0 .0) (sym made ∙ s .1) in
     let bytes = a .capture .now in
-    let behind = rest (a .n) (a .mask) (a .w) bytes (a .conditions .now) (a .commands .now) in
-    refused-causes (a .n) (a .mask) (a .w) bytes (a .conditions .now) (a .commands .now) _
-    (rest-right (a .n) (a .mask) (a .w) bytes behind (facts .1) (facts .2) _ (seen .causes-refusal .ensures) (c .if1 .left))
+    let behind = rest (a .n) (a .hold) (a .mask) (a .w) bytes (a .conditions .now) (a .commands .now) in
+    refused-causes (a .n) (a .hold) (a .mask) (a .w) bytes (a .conditions .now) (a .commands .now) _
+    (rest-right (a .n) (a .hold) (a .mask) (a .w) bytes behind (facts .1) (facts .2) _ (seen .causes-refusal .ensures) (c .if1 .left))
 
 returns-3 : tie.Need-returns-3
 returns-3 c =
     let made = c .before .before .before .fresh .ensures .decided in
     let a = c .before .before .before .before .before .before .before .args in
     let k = c .before .k .given in
-    let facts = refused-facts (a .n) (a .mask) (a .w) (k .0 .0) (sym made ∙ k .1) in
+    let facts = refused-facts (a .n) false (a .mask) (a .w) (k .0 .0) (sym made ∙ k .1) in
     let bytes = a .capture .now in
-    let behind = rest (a .n) (a .mask) (a .w) bytes (a .conditions .now) (a .commands .now) in
-    refused-causes (a .n) (a .mask) (a .w) bytes (a .conditions .now) (a .commands .now) (k .0 .0)
-    (settings-right (a .n) (a .mask) (a .w) bytes behind (k .0 .0) (facts .0) (facts .1))
+    let behind = rest (a .n) (a .hold) (a .mask) (a .w) bytes (a .conditions .now) (a .commands .now) in
+    refused-causes (a .n) (a .hold) (a .mask) (a .w) bytes (a .conditions .now) (a .commands .now) (k .0 .0)
+    (settings-right (a .n) (a .hold) (a .mask) (a .w) bytes behind (k .0 .0) (facts .0) (facts .1))
 
 pub judge-causes-spec : {M : Type 1} → statement M
 judge-causes-spec =

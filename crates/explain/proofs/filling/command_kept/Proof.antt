@@ -51,15 +51,15 @@ returns c =
     let last = sent .before .asked .ensures in
     let x = sent .asked2 .ensures in
     let now = holding .before .wait-of .ensures ∙ (λ i. waitOf s (last i) 0) in
-    let hold = holding .held .ensures ∙ (λ i. held (last i)) in
+    let kept = holding .held .ensures ∙ (λ i. held (last i)) in
     let prior =
     ranked .before .before .rank-held .ensures
-    ∙ (λ i. rankHeld (hold i) (ranked .before .before .before .rank-at .ensures i))
+    ∙ (λ i. rankHeld (kept i) (ranked .before .before .before .rank-at .ensures i))
     ∙ held-rank (asked (s .sent)) in
     let rank =
     c .before .before .deciding .ensures
     ∙ (λ i. deciding (ranked .before .rank-at2 .ensures i) (x i) (ranked .rank-at3 .ensures i)) in
-    let loud = c .before .louder .ensures ∙ (λ i. louder (rank i) (prior i) (now i)) in
+    let loud = c .before .louder .ensures ∙ (λ i. louder (sent .before .before .args .hold) (rank i) (prior i) (now i)) in
     c .command-word .ensures ∙ (λ i. 256 * commandFor (last i) (x i) (loud i) + channelFor (last i) (x i))
 
 pub command-kept-spec : {M : Type 1} → statement M

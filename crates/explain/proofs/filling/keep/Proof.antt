@@ -8,11 +8,11 @@ use Rattle.explain.proofs.filling.keep.Statement.{statement}
 use Rattle.explain.proofs.filling.keep.Tie as tie
 
 abbrev Inv-loop : tie.InvT-loop
-Inv-loop capture steps conditions₀ commands₀ table possible₀ step₀ conditions commands possible step =
-    Keeping capture steps possible₀ possible conditions₀ commands₀ conditions commands step
+Inv-loop hold capture steps conditions₀ commands₀ table possible₀ step₀ conditions commands possible step =
+    Keeping hold capture steps possible₀ possible conditions₀ commands₀ conditions commands step
 
 abbrev μ-loop : tie.MeasureT-loop
-μ-loop capture steps conditions₀ commands₀ table possible₀ step₀ conditions commands possible step = steps - step
+μ-loop hold capture steps conditions₀ commands₀ table possible₀ step₀ conditions commands possible step = steps - step
 
 abbrev In-loop : Type 0
 In-loop = tie.In-loop Inv-loop μ-loop
@@ -28,7 +28,7 @@ loop-holds : tie.Need-loop-holds Inv-loop μ-loop
 loop-holds c =
     let start = c .before .before .before .before in
     let a = start .args in
-    keeping-start (a .capture .now) (a .steps) _ (a .conditions .now) (a .commands .now) (start .pre)
+    keeping-start (a .hold) (a .capture .now) (a .steps) _ (a .conditions .now) (a .commands .now) (start .pre)
 
 mul-at : tie.Need-mul-at Inv-loop μ-loop
 mul-at c = let inside = row-inside c in search needs
@@ -85,7 +85,10 @@ command-kept-requires c κs =
     )
 
 mul-commands : tie.Need-mul-commands Inv-loop μ-loop
-mul-commands c = search needs
+mul-commands c =
+    let test = c .before .before .before .before .before .before .before .before .before in
+    let inside = in-commands (test .before .loop .inv) (test .loop-test .taken) in
+    search needs
 
 slice-write-commands : tie.Need-slice-write-commands Inv-loop μ-loop
 slice-write-commands c =
