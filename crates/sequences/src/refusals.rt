@@ -15,7 +15,7 @@ use text::print_pair;
 fn print_fresh(n: u8, mask: u16) {
     print_number(n as u64);
     print_labelled(b" ", mask as u64);
-    let refusal = match Controller::fresh(n, mask, 3) {
+    let refusal = match Controller::fresh(n, false, mask, 3) {
         Made::Fresh(_) => 0,
         Made::Refused(k) => k,
     };
@@ -49,7 +49,7 @@ struct Trial {
 
 fn good() -> Trial {
     Trial {
-        s: start(2, 0, 3),
+        s: start(2, false, 0, 3),
         first: 0,
         count: 3,
         command: 0,
@@ -97,8 +97,9 @@ fn tried(t: Trial) -> Outcome {
 }
 
 fn same_record(a: Controller, b: Controller) -> bool {
-    let settings = (a.n == b.n) & (a.mask == b.mask) & (a.w == b.w);
-    settings & (a.k1 == b.k1) & (a.k2 == b.k2) & (a.sent == b.sent) & (a.left == b.left)
+    let settings = (a.n == b.n) & (a.hold == b.hold) & (a.mask == b.mask) & (a.w == b.w);
+    let accepted = (a.k1 == b.k1) & (a.k2 == b.k2);
+    settings & accepted & (a.sent == b.sent) & (a.left == b.left) & (a.held == b.held)
 }
 
 fn zeros(o: Outcome) -> bool {
@@ -155,6 +156,7 @@ fn good_step(s: Controller) -> Outcome {
 
 fn print_record(s: Controller) {
     print_number(s.n as u64);
+    print_labelled(b" ", if s.hold { 1 } else { 0 });
     print_labelled(b" ", s.mask as u64);
     print_labelled(b" ", s.w as u64);
     print_byte(b' ');
@@ -162,21 +164,25 @@ fn print_record(s: Controller) {
     print_byte(b' ');
     print_hex(s.sent);
     print_labelled(b" ", s.left as u64);
+    print_byte(b' ');
+    print_hex(s.held);
     let o = good_step(s);
     print_labelled(b": ", o.refusal as u64);
     print_byte(b'\n');
 }
 
-// Of two sections, W = 3.
+// Of two sections, W = 3, without hold.
 fn print_two_sections(mask: u16, k1: u8, k2: u8, sent: u8, left: u16) {
     print_record(Controller {
         n: 2,
+        hold: false,
         mask,
         w: 3,
         k1,
         k2,
         sent,
         left,
+        held: 0x00,
     });
 }
 
@@ -211,15 +217,10 @@ fn print_by_sent() {
 
 // With W = 0 no wait is good.
 fn print_no_wait(left: u16) {
-    print_record(Controller {
-        n: 2,
-        mask: 0,
-        w: 0,
-        k1: 0x00,
-        k2: 0x08,
-        sent: 0x61,
-        left,
-    });
+    let mut s = start(2, false, 0, 0);
+    s.sent = 0x61;
+    s.left = left;
+    print_record(s);
 }
 
 fn print_by_wait() {
@@ -235,32 +236,84 @@ fn print_by_wait() {
 }
 
 // Of fourteen sections, the last one of high priority.
-fn print_fourteen(k1: u8, sent: u8, left: u16) {
+fn print_fourteen(hold: bool, k1: u8, sent: u8, left: u16, held: u8) {
     print_record(Controller {
         n: 14,
+        hold,
         mask: 8192,
         w: 65535,
         k1,
         k2: 0xE8,
         sent,
         left,
+        held,
     });
 }
 
+// Of two sections, W = 3, with 00 08 accepted.
+fn print_held(hold: bool, sent: u8, left: u16, held: u8) {
+    let mut s = start(2, hold, 0, 3);
+    s.sent = sent;
+    s.left = left;
+    s.held = held;
+    print_record(s);
+}
+
+// With hold: none held, each command of two sections, then channels and requests that no command has (02, g).
+fn print_by_held() {
+    print_held(true, 0x00, 0, 0x00);
+    print_held(true, 0x00, 0, 0xF0);
+    print_held(true, 0x00, 0, 0xE1);
+    print_held(true, 0x00, 0, 0xE2);
+    print_held(true, 0x00, 0, 0x81);
+    print_held(true, 0x00, 0, 0x82);
+    print_held(true, 0x00, 0, 0xE3);
+    print_held(true, 0x00, 0, 0xE0);
+    print_held(true, 0x00, 0, 0x83);
+    print_held(true, 0x00, 0, 0x80);
+    print_held(true, 0x00, 0, 0xF1);
+    print_held(true, 0x00, 0, 0x01);
+    print_held(true, 0x00, 0, 0xC1);
+    print_held(true, 0x00, 0, 0xD0);
+    print_held(true, 0x00, 0, 0x61);
+    print_held(true, 0x00, 0, 0x22);
+}
+
+// Nothing is held without the setting; with it, the K1 last sent is asked for nothing more than before (02, g).
+fn print_held_otherwise() {
+    print_held(false, 0x00, 0, 0xF0);
+    print_held(false, 0x00, 0, 0xE1);
+    print_held(false, 0x00, 0, 0x81);
+    print_held(false, 0x00, 0, 0x01);
+    print_held(true, 0xF0, 0, 0x00);
+    print_held(true, 0xE1, 0, 0x00);
+    print_held(true, 0xE1, 0, 0x82);
+    print_held(true, 0x61, 2, 0x81);
+}
+
+fn print_held_of_fourteen() {
+    print_fourteen(true, 0xEE, 0xDE, 0, 0xEE);
+    print_fourteen(true, 0xEE, 0xDE, 0, 0x8E);
+    print_fourteen(true, 0xEE, 0xDE, 0, 0xEF);
+}
+
 fn print_records() {
-    print(b"\nrefusals by the record: n mask W, accepted, sent, left: refusal\n");
+    print(b"\nrefusals by the record: n hold mask W, accepted, sent, left, held: refusal\n");
     print_by_accepted();
     print_by_sent();
     print_by_wait();
-    print_fourteen(0xEE, 0xDE, 0);
-    print_fourteen(0x6E, 0x6E, 65535);
+    print_fourteen(false, 0xEE, 0xDE, 0, 0x00);
+    print_fourteen(false, 0x6E, 0x6E, 65535, 0x00);
+    print_by_held();
+    print_held_otherwise();
+    print_held_of_fourteen();
 }
 
 fn print_command_row(command: u8) {
     print_number(command as u64);
     let mut c: u8 = 0;
     while c < 4 {
-        let s = start(2, 0, 3);
+        let s = start(2, false, 0, 3);
         let o = s.step(0x00, 0x08, &[0, 0, 0], command, c);
         print_labelled(b" ", o.refusal as u64);
         c += 1;

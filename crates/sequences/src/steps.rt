@@ -10,29 +10,39 @@ use text::print_list;
 use text::print_number;
 use text::print_pair;
 
-pub(crate) fn start(n: u8, mask: u16, w: u16) -> Controller {
-    match Controller::fresh(n, mask, w) {
+pub(crate) fn start(n: u8, hold: bool, mask: u16, w: u16) -> Controller {
+    match Controller::fresh(n, hold, mask, w) {
         Made::Fresh(s) => s,
         Made::Refused(_) => Controller {
             n: 0,
+            hold: false,
             mask: 0,
             w: 0,
             k1: 0,
             k2: 0,
             sent: 0,
             left: 0,
+            held: 0,
         },
     }
 }
 
-// The name of a sequence and its settings; the record to begin with.
-fn title(name: &[u8], n: u8, mask: u16, w: u16) -> Controller {
+// The name of a sequence and its settings, hold only where it is set (02, g); the record to begin with.
+pub(crate) fn title_of(name: &[u8], n: u8, hold: bool, mask: u16, w: u16) -> Controller {
     print(name);
     print_labelled(b": n ", n as u64);
     print_labelled(b" mask ", mask as u64);
     print_labelled(b" W ", w as u64);
+    if hold {
+        print(b" hold");
+    }
     print_byte(b'\n');
-    start(n, mask, w)
+    start(n, hold, mask, w)
+}
+
+// Without hold, as all of 01 is.
+fn title(name: &[u8], n: u8, mask: u16, w: u16) -> Controller {
+    title_of(name, n, false, mask, w)
 }
 
 fn print_conditions(conditions: &[u8]) {
@@ -58,7 +68,14 @@ fn print_outcome(o: Outcome) {
     print_byte(b'\n');
 }
 
-fn command(s: Controller, k1: u8, k2: u8, conditions: &[u8], order: u8, c: u8) -> Controller {
+pub(crate) fn command(
+    s: Controller,
+    k1: u8,
+    k2: u8,
+    conditions: &[u8],
+    order: u8,
+    c: u8,
+) -> Controller {
     print_pair(k1, k2);
     print_byte(b' ');
     print_conditions(conditions);
@@ -69,7 +86,7 @@ fn command(s: Controller, k1: u8, k2: u8, conditions: &[u8], order: u8, c: u8) -
     o.controller
 }
 
-fn receive(s: Controller, k1: u8, k2: u8, conditions: &[u8]) -> Controller {
+pub(crate) fn receive(s: Controller, k1: u8, k2: u8, conditions: &[u8]) -> Controller {
     command(s, k1, k2, conditions, 0, 0)
 }
 

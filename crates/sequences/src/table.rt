@@ -22,7 +22,7 @@ struct Ends {
 
 fn new_end() -> End {
     End {
-        s: start(2, 0, 1),
+        s: start(2, false, 0, 1),
         k1: 0x00,
         k2: 0x08,
         selector: 0,

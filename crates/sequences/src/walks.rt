@@ -131,9 +131,11 @@ fn mixed_outcome(sum: u64, o: Outcome) -> u64 {
     mixed(mixed(b, o.mark as u16), o.fate as u16)
 }
 
+// The held command is of the record only with hold (02, g); without, the sum is of the record of 01.
 fn mixed_record(sum: u64, s: Controller) -> u64 {
     let a = mixed(mixed(sum, s.k1 as u16), s.k2 as u16);
-    mixed(mixed(a, s.sent as u16), s.left)
+    let b = mixed(mixed(a, s.sent as u16), s.left);
+    if s.hold { mixed(b, s.held as u16) } else { b }
 }
 
 // One more, where there is one; at the end of its type a count stays.
@@ -175,12 +177,12 @@ fn step(w: Walk, n: u8) -> Walk {
     walked(w, order.x, o)
 }
 
-fn begin(n: u8) -> Walk {
+fn begin(n: u8, hold: bool) -> Walk {
     let x1 = next(n as u64);
     let x2 = next(x1);
     let bits: u64 = 1 << (n % 15);
     let mask = remainder(x1, bits) % 65536;
-    let s = start(n, mask as u16, (x2 % 4) as u16);
+    let s = start(n, hold, mask as u16, (x2 % 4) as u16);
     Walk {
         x: x2,
         s,
@@ -192,8 +194,8 @@ fn begin(n: u8) -> Walk {
     }
 }
 
-fn walk_of(n: u8) -> Walk {
-    let mut w = begin(n);
+fn walk_of(n: u8, hold: bool) -> Walk {
+    let mut w = begin(n, hold);
     let mut i: u32 = 0;
     while i < STEPS {
         w = step(w, n);
@@ -202,8 +204,8 @@ fn walk_of(n: u8) -> Walk {
     w
 }
 
-fn print_walk(n: u8) {
-    let w = walk_of(n);
+fn print_walk(n: u8, hold: bool) {
+    let w = walk_of(n, hold);
     let s = w.s;
     print_number(n as u64);
     print_list(&[s.mask as u32, s.w as u32]);
@@ -213,11 +215,25 @@ fn print_walk(n: u8) {
     print_byte(b'\n');
 }
 
-pub(crate) fn print_walks() {
-    print(b"\nwalks of 20000 steps: n mask W: refused, taken, denied, marked, sum\n");
+fn print_heading(hold: bool) {
+    print(b"\nwalks of 20000 steps");
+    if hold {
+        print(b" with hold");
+    }
+    print(b": n mask W: refused, taken, denied, marked, sum\n");
+}
+
+fn print_walk_table(hold: bool) {
+    print_heading(hold);
     let mut n: u8 = 1;
     while n < 15 {
-        print_walk(n);
+        print_walk(n, hold);
         n += 1;
     }
+}
+
+// The same draws for both settings, so that a line of the one table stands against that of the other.
+pub(crate) fn print_walks() {
+    print_walk_table(false);
+    print_walk_table(true);
 }

@@ -5,10 +5,10 @@ use Rattle.sequences.proofs.walks.walk_of.Statement.{statement}
 use Rattle.sequences.proofs.walks.walk_of.Tie as tie
 
 abbrev Inv-loop : tie.InvT-loop
-Inv-loop n w₀ i₀ w i = i ≤ 20000
+Inv-loop n hold w₀ i₀ w i = i ≤ 20000
 
 abbrev μ-loop : tie.MeasureT-loop
-μ-loop n w₀ i₀ w i = 20000 - i
+μ-loop n hold w₀ i₀ w i = 20000 - i
 
 begin-requires : tie.Need-begin-requires Inv-loop μ-loop
 begin-requires c κs = search needs

@@ -1,20 +1,17 @@
--- `print_walks` is safe and ends.
+-- `print_walk_table` is safe and ends.
 use Prim.Native.Nat.{_≤_, _-_}
 use borrow.Author.Needs.{needs}
-use Rattle.sequences.proofs.walks.print_walks.Statement.{statement}
-use Rattle.sequences.proofs.walks.print_walks.Tie as tie
+use Rattle.sequences.proofs.walks.print_walk_table.Statement.{statement}
+use Rattle.sequences.proofs.walks.print_walk_table.Tie as tie
 
 abbrev Inv-loop : tie.InvT-loop
-Inv-loop n₀ n = n ≤ 15
+Inv-loop hold n₀ n = n ≤ 15
 
 abbrev μ-loop : tie.MeasureT-loop
-μ-loop n₀ n = 15 - n
+μ-loop hold n₀ n = 15 - n
 
-slice-aggregate-print : tie.Need-slice-aggregate-print Inv-loop μ-loop
-slice-aggregate-print c = search needs
-
-print-requires : tie.Need-print-requires Inv-loop μ-loop
-print-requires c κs = search needs
+print-heading-requires : tie.Need-print-heading-requires Inv-loop μ-loop
+print-heading-requires c κs = search needs
 
 loop-holds : tie.Need-loop-holds Inv-loop μ-loop
 loop-holds c = search needs
@@ -34,14 +31,13 @@ loop-again c = search needs
 returns : tie.Need-returns Inv-loop μ-loop
 returns c = search needs
 
-pub print-walks-spec : {M : Type 1} → statement M
-print-walks-spec =
+pub print-walk-table-spec : {M : Type 1} → statement M
+print-walk-table-spec =
     tie.close
     (tie.spec
     Inv-loop
     μ-loop
-    slice-aggregate-print
-    print-requires
+    print-heading-requires
     loop-holds
     print-walk-requires
     add-n
