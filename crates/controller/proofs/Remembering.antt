@@ -1,12 +1,12 @@
 -- With hold a held command stays until a clear or a command of higher rank (02, g).
 use mathlib.Core.Path.{_≡_, refl, sym, ap, subst, _∙_}
-use mathlib.Core.Bool.{Bool, true, false, not, _&&_, and-eq-true-iff}
+use mathlib.Core.Bool.{Bool, true, false, not, and-eq-true-iff}
 use mathlib.Core.List.{List, [], _∷_}
 use mathlib.Core.Logic.{⊎-elim}
-use Prim.Native.Nat.{ℕ, _<_, _≤_}
+use Prim.Native.Nat.{ℕ, _<_}
 use native.Mathlib.Omega.{arith}
 use lib.Dec.{leb, eqb}
-use borrow.Author.Tests.{eqb-true, eqb-false, leb-true, eq-eqb, ne-eqb, le-ltb, not-true}
+use borrow.Author.Tests.{eqb-false, leb-true, eq-eqb, ne-eqb, le-ltb, not-true}
 use Rattle.basics.specs.Table.{every}
 use Rattle.request.specs.declared.Request.{Request}
 use Rattle.controller.specs.Settings.{noneHeld}

@@ -32,7 +32,7 @@ use Rattle.explain.specs.Cause.{isNew, goesOn, commandNumber, commandFor
 use Rattle.explain.specs.Hold.{forgetting, HoldsSent}
 use Rattle.explain.proofs.Commands.{commanded-of}
 use Rattle.explain.proofs.Moving.{standsFor, farIn, sentWith, standsIn, actsIn, step-moves, acts-well, sent-able, sent-asked, sent-left}
-use Rattle.explain.proofs.Moving.{recast, recast-sends, recast-left}
+use Rattle.explain.proofs.Moving.{recast-sends, recast-left}
 use Rattle.explain.proofs.Without.{sent-command, decided-without}
 use Rattle.explain.proofs.Witness.{or-false, by-command}
 
