@@ -5,7 +5,7 @@ use mathlib.Core.List.{List, [], _∷_, _++_, append-assoc, append-nil}
 use Prim.Native.Nat.{ℕ, zero, suc, _+_, _*_, _-_, _≤_, _<_}
 use native.Mathlib.Nat.{suc-sub-suc, sub-zero, zero-sub, zero-add}
 use native.Mathlib.Omega.{arith}
-use lib.ListN.{length, getD, set, take, drop, replicate, length-append, length-drop, length-replicate, replicate-append-replicate}
+use lib.ListN.{length, getD, take, drop, replicate, length-append, length-drop, length-replicate, replicate-append-replicate}
 use lib.Seq.{sets, sets-eq, drop-at, take-add, take-all, getD-drop}
 use Rattle.basics.specs.Bytes.{fourBytes}
 use Rattle.basics.proofs.Fields.{fields-back, fields-again}
@@ -77,15 +77,14 @@ entries-again (suc k) bytes small h =
     (sym (take-add 12 (12 * k) bytes))
 
 -- an entry that stands there as it was handed in, once the writer has put there what it puts itself
-place-put : (e : Entry) (at : ℕ) → sets (set (entryBytes e) 1 0) 6 (fourBytes at) ≡ entryBytes (placedAt at e)
+place-put : (e : Entry) (at : ℕ) → sets (entryBytes e) 6 (fourBytes at) ≡ entryBytes (placedAt at e)
 unfolding entryBytes
 place-put e at = refl
 
 pub entry-placed : (bytes : List ℕ) → ((i : ℕ) → getD bytes i 0 < 256) → 12 ≤ length bytes → (at : ℕ)
-    → entryBytes (placedAt at (entryIn bytes)) ≡ sets (set (take 12 bytes) 1 0) 6 (fourBytes at)
+    → entryBytes (placedAt at (entryIn bytes)) ≡ sets (take 12 bytes) 6 (fourBytes at)
 entry-placed bytes small long at =
-    sym (place-put (entryIn bytes) at)
-    ∙ ap (λ (l : List ℕ). sets (set l 1 0) 6 (fourBytes at)) (entry-again bytes small long)
+    sym (place-put (entryIn bytes) at) ∙ ap (λ (l : List ℕ). sets l 6 (fourBytes at)) (entry-again bytes small long)
 
 -- the bytes of entries one behind the other, and of places that are zeros
 pub contents-joined : (entries after : List Entry)

@@ -1,5 +1,5 @@
 -- Theorems is the front door; the rest are the laws behind it, some of them for the printed table and the door for C and Rust too.
-mod Refusals
+pub mod Refusals
 pub mod Laid
 pub mod Entries
 mod Counted

@@ -17,13 +17,13 @@ use Rattle.book.specs.Format.{joined, placedAt, placed}
 use Rattle.book.specs.Reader.{headFaults, entryFaults, bodyFaults, readFaults, refusal}
 use Rattle.book.specs.Writer.{stepsOf}
 use Rattle.book.specs.declared.Entry.{Entry}
-use Rattle.book.proofs.Refusals.{headed, fit-both, fit-every, sound}
+use Rattle.book.proofs.Refusals.{headed, fit-each, fit-every, sound}
 
 -- in order from a place on: the steps tell how far, so that no body passes the end
 pub order-ends : (size at : ℕ) (entries : List Entry) → InOrder size at entries → at + 4 * stepsOf entries ≡ size
 unfolding InOrder stepsOf
 order-ends size at [] o = omega (arith, o)
-order-ends size at (e ∷ rest) o = omega (arith, order-ends size (bodyEnd at e) rest (o .2))
+order-ends size at (e ∷ rest) o = omega (arith, order-ends size (bodyEnd at e) rest (o .1))
 
 -- the checks of a list of entries, each behind the last: none applies exactly where the settings fit and the bodies are in
 -- order
@@ -32,17 +32,17 @@ pub order-none : (size at : ℕ) (entries : List Entry) → every settingsFit en
 unfolding InOrder bodyFaults
 order-none size at [] all o = rw (le-ltb at size (omega (arith, o)))
 order-none size at (e ∷ rest) all o =
-    let ends = order-ends size (bodyEnd at e) rest (o .2) in
+    let ends = order-ends size (bodyEnd at e) rest (o .1) in
     let fits = fit-every e rest all in
-    let both = fit-both e (fits .0) in
+    let each = fit-each e (fits .0) in
     rw (
-      eq-eqb (e .spare) 0 (o .0),
-      both .0,
-      both .1,
-      eq-eqb (e .offset) at (o .1),
+      each .0,
+      each .1,
+      each .2,
+      eq-eqb (e .offset) at (o .0),
       le-ltb size (bodyEnd at e) (omega arith),
     )
-    (order-none size (bodyEnd at e) rest (fits .1) (o .2))
+    (order-none size (bodyEnd at e) rest (fits .1) (o .1))
 
 pub none-order : (size at : ℕ) (entries : List Entry) → at ≤ size → firstOf (bodyFaults size at entries) ≡ 0
     → (every settingsFit entries ≡ true) × InOrder size at entries
@@ -53,7 +53,7 @@ none-order size at (entry ∷ rest) h e =
     let both = none-both (entryFaults size at entry) (bodyFaults size (bodyEnd at entry) rest) refl e in
     let s = sound size at entry (both .0) in
     let later = none-order size (bodyEnd at entry) rest (s .inside) (both .1) in
-    (rw (s .fits) (later .0), (s .spared, s .there, later .1))
+    (rw (s .fits) (later .0), (s .there, later .1))
 
 -- the bodies of a book that are in order, joined, are all that stands from the first one on
 pub joined-rest : (book : List ℕ) (at : ℕ) (entries : List Entry) → InOrder (length book) at entries
@@ -61,7 +61,7 @@ pub joined-rest : (book : List ℕ) (at : ℕ) (entries : List Entry) → InOrde
 unfolding InOrder joined
 joined-rest book at [] o = sym (drop-of-length-le book {i = at} (omega (arith, o)))
 joined-rest book at (e ∷ rest) o =
-    rw (o .1, joined-rest book (bodyEnd at e) rest (o .2), ← drop-drop (4 * e .steps) at book)
+    rw (o .0, joined-rest book (bodyEnd at e) rest (o .1), ← drop-drop (4 * e .steps) at book)
     (take-append-drop (4 * e .steps) (drop at book))
 
 -- and each has as many bytes as its steps call for
@@ -70,29 +70,24 @@ pub whole-bodies : (book : List ℕ) (at : ℕ) (entries : List Entry) → InOrd
 unfolding InOrder
 whole-bodies book at [] o = refl
 whole-bodies book at (e ∷ rest) o =
-    let ends = order-ends (length book) (bodyEnd at e) rest (o .2) in
+    let ends = order-ends (length book) (bodyEnd at e) rest (o .1) in
     let long : length (bodyOf book e) ≡ 4 * e .steps =
-    length-take-le (4 * e .steps) (drop (e .offset) book) (simp length-drop (omega (arith, o .1))) in
-    rw (eq-eqb (length (bodyOf book e)) (4 * e .steps) long) (whole-bodies book (bodyEnd at e) rest (o .2))
-
-abbrev changed : Entry → ℕ → ℕ → Entry
-changed e spare offset =
-    record { n = e .n; spare = spare; mask = e .mask; w = e .w; offset = offset; steps = e .steps }
+    length-take-le (4 * e .steps) (drop (e .offset) book) (simp length-drop (omega (arith, o .0))) in
+    rw (eq-eqb (length (bodyOf book e)) (4 * e .steps) long) (whole-bodies book (bodyEnd at e) rest (o .1))
 
 -- entries that are in order are placed as they stand, and placed entries are in order
 pub placed-order : (size at : ℕ) (entries : List Entry) → InOrder size at entries → placed at entries ≡ entries
 unfolding InOrder placed
 placed-order size at [] o = refl
 placed-order size at (e ∷ rest) o =
-    let here : placedAt at e ≡ e =
-    ap (λ (spare : ℕ). changed e spare at) (sym (o .0)) ∙ ap (λ (offset : ℕ). changed e (e .spare) offset) (sym (o .1)) in
-    rw (here, placed-order size (bodyEnd at e) rest (o .2))
+    let here : placedAt at e ≡ e = ap (λ (offset : ℕ). placedAt offset e) (sym (o .0)) in
+    rw (here, placed-order size (bodyEnd at e) rest (o .1))
 
 pub order-placed : (size at : ℕ) (entries : List Entry) → at + 4 * stepsOf entries ≡ size
     → InOrder size at (placed at entries)
 unfolding InOrder placed stepsOf
 order-placed size at [] h = omega (arith, h)
-order-placed size at (e ∷ rest) h = (refl, refl, order-placed size (bodyEnd at e) rest (omega (arith, h)))
+order-placed size at (e ∷ rest) h = (refl, order-placed size (bodyEnd at e) rest (omega (arith, h)))
 
 -- and no settings are others
 pub fit-placed : (at : ℕ) (entries : List Entry) → every settingsFit (placed at entries) ≡ every settingsFit entries

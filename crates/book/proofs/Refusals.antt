@@ -1,18 +1,19 @@
 -- What it means that a refusal is 0: none of the checks applies, so that each of their facts holds.
 use mathlib.Core.Path.{_≡_, refl, sym, _∙_}
-use mathlib.Core.Bool.{true, false, not, and-eq-true-iff}
+use mathlib.Core.Bool.{Bool, true, false, not, _&&_, and-eq-true-iff}
 use mathlib.Core.List.{List, [], _∷_, _++_}
 use Prim.Native.Nat.{ℕ, _+_, _*_, _≤_}
+use native.Mathlib.Omega.{arith}
 use lib.Dec.{ltb, eqb}
 use lib.ListN.{length, getD}
-use borrow.Author.Tests.{ltb-false, eqb-true, le-ltb, eq-eqb, not-false}
-use Rattle.basics.specs.First.{Check, _when_, firstOf}
+use borrow.Author.Tests.{leb-true, ltb-false, eqb-true, eqb-false, le-ltb, eq-eqb, not-false}
+use Rattle.basics.specs.Choice.{if_then_else_}
+use Rattle.basics.specs.First.{_when_, firstOf}
 use Rattle.basics.specs.Settings.{sectionsFit, maskFits}
 use Rattle.basics.specs.Table.{every}
 use Rattle.basics.proofs.First.{numbered, none-exact, none-both, first-behind, first-before}
-use Rattle.basics.proofs.Fitting.{settings-fit}
-use Rattle.book.specs.Format.{firstBody, bodyEnd, settingsFit, settingsFaults, most, countIn}
-use Rattle.book.specs.Reader.{headFaults, entryFaults}
+use Rattle.book.specs.Format.{firstBody, bodyEnd, holdIn, spareFits, settingsFit, settingsFaults, most, countIn}
+use Rattle.book.specs.Reader.{headFaults, placeFaults, entryFaults}
 use Rattle.book.specs.Writer.{counted, stepsOf, size, entriesFaults, sizeFaults, writeRefusal}
 use Rattle.book.specs.declared.Entry.{Entry}
 use Rattle.book.specs.declared.Contents.{Contents}
@@ -39,16 +40,36 @@ headed book e =
       uncut = ltb-false (length book) (firstBody (countIn book)) (none 4);
     }
 
--- settings that fit are those of which neither 31 nor 32 applies, of one entry and of all
-pub fit-both : (e : Entry) → settingsFit e ≡ true → (sectionsFit (e .n) ≡ true) × (maskFits (e .n) (e .mask) ≡ true)
-fit-both e fits = and-eq-true-iff (sectionsFit (e .n)) (maskFits (e .n) (e .mask)) .0 fits
+-- settings that fit are those of which none of 25, 31 and 32 applies, of one entry and of all
+pub fit-each : (e : Entry) → settingsFit e ≡ true
+    → (spareFits e ≡ true) × (sectionsFit (e .n) ≡ true) × (maskFits (e .n) (e .mask) ≡ true)
+fit-each e fits =
+    let both = and-eq-true-iff (spareFits e && sectionsFit (e .n)) (maskFits (e .n) (e .mask)) .0 fits in
+    let first = and-eq-true-iff (spareFits e) (sectionsFit (e .n)) .0 (both .0) in
+    (first .0, first .1, both .1)
+
+pub fit-spare : (e : Entry) → settingsFit e ≡ true → e .spare ≤ 1
+fit-spare e fits = leb-true (e .spare) 1 (fit-each e fits .0)
+
+pub fit-hold : (e : Entry) → settingsFit e ≡ true → e .spare ≡ (if holdIn e then 1 else 0)
+fit-hold e fits = go (holdIn e) refl
+  where
+    go : (t : Bool) → holdIn e ≡ t → e .spare ≡ (if t then 1 else 0)
+    go true h = eqb-true (e .spare) 1 h
+    go false h = omega (arith, fit-spare e fits, eqb-false (e .spare) 1 h)
 
 pub fit-every : (e : Entry) (rest : List Entry) → every settingsFit (e ∷ rest) ≡ true
     → (settingsFit e ≡ true) × (every settingsFit rest ≡ true)
 fit-every e rest all = and-eq-true-iff (settingsFit e) (every settingsFit rest) .0 all
 
 fits-none : (e : Entry) → firstOf (settingsFaults e) ≡ 0 → settingsFit e ≡ true
-fits-none e none = let both = settings-fit 31 32 (e .n) (e .mask) refl none in rw (both .0, both .1)
+fits-none e none =
+    let each = none-exact (settingsFaults e) refl .0 none in
+    rw (
+      not-false (spareFits e) (each 0),
+      not-false (sectionsFit (e .n)) (each 1),
+      not-false (maskFits (e .n) (e .mask)) (each 2),
+    )
 
 entries-numbered : (entries : List Entry) → numbered (entriesFaults entries) ≡ true
 unfolding entriesFaults
@@ -67,40 +88,33 @@ unfolding entriesFaults
 fit-all [] all = refl
 fit-all (e ∷ rest) all =
     let parts = fit-every e rest all in
-    let both = fit-both e (parts .0) in
-    rw (both .0, both .1) (fit-all rest (parts .1))
+    let each = fit-each e (parts .0) in
+    rw (each .0, each .1, each .2) (fit-all rest (parts .1))
 
 -- an entry whose body belongs at a place has no fault
 pub record Sound (size at : ℕ) (e : Entry) : Type 0 where
-  pub spared : e .spare ≡ 0
   pub fits : settingsFit e ≡ true
   pub there : e .offset ≡ at
   pub inside : bodyEnd at e ≤ size
 
 pub sound : (size at : ℕ) (e : Entry) → firstOf (entryFaults size at e) ≡ 0 → Sound size at e
 sound size at e h =
-    let none = none-exact (entryFaults size at e) refl .0 h in
+    let both = none-both (settingsFaults e) (placeFaults size at e) refl h in
+    let none = none-exact (placeFaults size at e) refl .0 (both .1) in
     record {
-      spared = equal (e .spare) 0 (none 0);
-      fits = rw (not-false (sectionsFit (e .n)) (none 1), not-false (maskFits (e .n) (e .mask)) (none 2));
-      there = equal (e .offset) at (none 3);
-      inside = ltb-false size (bodyEnd at e) (none 4);
+      fits = fits-none e (both .0);
+      there = equal (e .offset) at (none 0);
+      inside = ltb-false size (bodyEnd at e) (none 1);
     }
 
--- behind refusal 25: the refusal of the settings, and behind those the others
-module _ (size at : ℕ) (e : Entry) (spared : e .spare ≡ 0) (settings : ℕ)
-    (asked : settings ≡ firstOf (settingsFaults e)) where
-  abbrev behind : List Check
-  behind = (26 when not (eqb (e .offset) at)) ∷ (27 when ltb size (bodyEnd at e)) ∷ []
-
+-- the refusal of the settings, and behind it the others
+module _ (size at : ℕ) (e : Entry) (settings : ℕ) (asked : settings ≡ firstOf (settingsFaults e)) where
   pub entry-settings : (settings ≡ 0 → ⊥) → settings ≡ firstOf (entryFaults size at e)
   entry-settings some =
-      rw (eq-eqb (e .spare) 0 spared)
-      (asked ∙ sym (first-before (settingsFaults e) behind (λ z. some (asked ∙ z))))
+      asked ∙ sym (first-before (settingsFaults e) (placeFaults size at e) (λ z. some (asked ∙ z)))
 
-  pub entry-behind : settings ≡ 0 → firstOf behind ≡ firstOf (entryFaults size at e)
-  entry-behind none =
-      rw (eq-eqb (e .spare) 0 spared) (sym (first-behind (settingsFaults e) behind refl (sym asked ∙ none)))
+  pub entry-behind : settings ≡ 0 → firstOf (placeFaults size at e) ≡ firstOf (entryFaults size at e)
+  entry-behind none = sym (first-behind (settingsFaults e) (placeFaults size at e) refl (sym asked ∙ none))
 
 -- what is handed to the writer has no fault
 pub record Writable (contents : Contents) (bodies room : ℕ) : Type 0 where

@@ -6,20 +6,23 @@ use mathlib.Core.Logic.{_↔_, _⊎_}
 use Prim.Native.Nat.{ℕ, _+_, _*_, _-_, _≤_, _<_}
 use native.Mathlib.Omega.{arith}
 use lib.Dec.{eqb}
-use lib.ListN.{length, getD, set, take, drop, replicate}
+use lib.ListN.{length, getD, take, drop, replicate}
 use lib.Seq.{sets}
 use denote.Ref.{now}
 use Rattle.basics.specs.Bytes.{fourBytes}
+use Rattle.basics.specs.Choice.{if_then_else_}
 use Rattle.basics.specs.Fields.{sizeOf}
 use Rattle.basics.specs.First.{FirstAt, numberOf}
 use Rattle.basics.proofs.First.{first-applies}
 use Rattle.basics.proofs.One.{OneAnswer, OneContent, OnePart, one-value, one-case}
 use Rattle.basics.specs.Table.{every}
 use Rattle.book.specs.Format.{countIn, layout, entryIn, entryBytes, entriesOf, contentsIn, bytesOf, firstBody}
-use Rattle.book.specs.Format.{settingsFit, IsBook, bodyOf, joined, entryFits, places, placedAt, placed, bookOf}
+use Rattle.book.specs.Format.{holdIn, settingsFit, IsBook, bodyOf, joined, entryFits, places, placedAt, placed, bookOf}
 use Rattle.book.specs.Reader.{readFaults, refusal, reading}
 use Rattle.book.specs.Writer.{counted, stepsOf, size, writeFaults, writeRefusal, writing, output}
+use Rattle.book.specs.declared.Entry.{Entry}
 use Rattle.book.specs.declared.Contents.{Contents}
+use Rattle.book.proofs.Refusals.{fit-hold}
 use Rattle.book.proofs.Books.{refused-writing}
 use Rattle.book.proofs.Ordered.{order-ends, joined-rest, whole-bodies, book-exact, refused-or-book}
 use Rattle.book.proofs.Ordered.{refused-no-book}
@@ -34,6 +37,10 @@ use Rattle.book.proofs.read.Kinds as read-kinds
 use Rattle.book.proofs.read.Reads as read-fn
 use Rattle.book.proofs.read.Statement as read-statement
 use Rattle.book.proofs.read.Met as read-met
+use Rattle.book.proofs.hold_in.Kinds as hold-in-kinds
+use Rattle.book.proofs.hold_in.Reads as hold-in-fn
+use Rattle.book.proofs.hold_in.Statement as hold-in-statement
+use Rattle.book.proofs.hold_in.Met as hold-in-met
 use Rattle.book.proofs.body.Kinds as body-kinds
 use Rattle.book.proofs.body.Reads as body-fn
 use Rattle.book.proofs.body.Statement as body-statement
@@ -43,10 +50,13 @@ use Rattle.book.proofs.write.Reads as write-fn
 use Rattle.book.proofs.write.Statement as write-statement
 use Rattle.book.proofs.write.Met as write-met
 
--- Reading, the body of a capture and writing, also of contents in bytes by themselves, answer what their definitions say, for
--- every input. (`statement` is the contract, as the checker reads it off the source; it asks nothing of the caller.)
+-- Reading, the setting hold and the body of a capture, and writing, also of contents in bytes by themselves, answer what their
+-- definitions say, for every input. (`statement` is the contract, as the checker reads it off the source; it asks nothing of the caller.)
 read-right : {M : Type 1} → read-statement.statement M
 read-right = read-met.met
+
+hold-in-right : {M : Type 1} → hold-in-statement.statement M
+hold-in-right = hold-in-met.met
 
 body-right : {M : Type 1} → body-statement.statement M
 body-right = body-met.met
@@ -61,6 +71,9 @@ read-into-right = read-into-met.met
 -- the function's `ensures`. A body is a part of the book's own slice; what is decided of it is its bytes.)
 read-unique : OneAnswer 1 read-kinds.ps read-kinds.r read-fn.Post
 read-unique κs args x y s t p q = one-value p q
+
+hold-in-unique : OneAnswer 0 hold-in-kinds.ps hold-in-kinds.r hold-in-fn.Post
+hold-in-unique κs args x y s t p q = one-value p q
 
 body-unique : OnePart 1 body-kinds.ps body-kinds.r body-fn.Post (λ κs part. now part)
 body-unique κs args x y s t p q = one-value p q
@@ -90,10 +103,14 @@ not-both = refused-no-book
 refusal-exact : (book : List ℕ) → (refusal book ≡ 0) ↔ IsBook book
 refusal-exact = book-exact
 
--- Every entry of a book that was read has settings from which a fresh record is made: n is 1 to 14, and the mask has no bit
--- at n or above. (The record itself is the controller's; `chainplater` states that it is made, `captures-fresh`.)
+-- Every entry of a book that was read has settings from which a fresh record is made: n is 1 to 14, the mask has no bit at n
+-- or above, and the spare byte is 0 or 1. (The record itself is the controller's; `chainplater` states that it is made,
+-- `captures-fresh`.) The spare byte of such an entry is 1 with hold, and 0 without.
 settings-right : (book : List ℕ) → reading book .refusal ≡ 0 → every settingsFit (counted (reading book .contents)) ≡ true
 settings-right = read-fit
+
+spare-right : (e : Entry) → settingsFit e ≡ true → e .spare ≡ (if holdIn e then 1 else 0)
+spare-right = fit-hold
 
 -- The first check that applies gives a write's refusal; then no bytes are written and the output is as it was.
 write-first : (contents : Contents) (bodies room : ℕ) → (writeRefusal contents bodies room ≡ 0 → ⊥)
@@ -151,8 +168,8 @@ read-write : (book out : List ℕ) → ((i : ℕ) → getD book i 0 < 256) → r
     × (output contents bodies out ≡ book ++ drop (length book) out)
 read-write = read-again
 
--- What was written is read as it was handed in: n, mask, W and steps of each entry, spare 0, the offsets where the bodies
--- belong, zeros past the count; and its bodies are those that were handed in, each with four bytes a step.
+-- What was written is read as it was handed in: n, spare byte, mask, W and steps of each entry, with the offsets where the
+-- bodies belong, and zeros past the count; and its bodies are those that were handed in, each with four bytes a step.
 write-read : (contents : Contents) (bodies out : List ℕ) → writeRefusal contents (length bodies) (length out) ≡ 0 →
     let book = take (size contents (length bodies)) (output contents bodies out) in
     let entries = placed (firstBody (contents .count)) (counted contents) in
@@ -163,14 +180,14 @@ write-read : (contents : Contents) (bodies out : List ℕ) → writeRefusal cont
 write-read = written-again
 
 -- In bytes by themselves, the contents of a book that was read are the book's own bytes behind the count, with zeros behind
--- them; and an entry as it is written is the caller's 12 bytes with spare 0 and the offset put in.
+-- them; and an entry as it is written is the caller's 12 bytes with the offset put in.
 listed-right : (book : List ℕ) → ((i : ℕ) → getD book i 0 < 256) → IsBook book
     → bytesOf (reading book .contents)
     ≡ (countIn book ∷ take (12 * countIn book) (drop 2 book)) ++ replicate (12 * (64 - countIn book)) 0
 listed-right = listed-book
 
 placed-right : (bytes : List ℕ) → ((i : ℕ) → getD bytes i 0 < 256) → 12 ≤ length bytes → (at : ℕ)
-    → entryBytes (placedAt at (entryIn bytes)) ≡ sets (set (take 12 bytes) 1 0) 6 (fourBytes at)
+    → entryBytes (placedAt at (entryIn bytes)) ≡ sets (take 12 bytes) 6 (fourBytes at)
 placed-right = entry-placed
 
 -- Contents in bytes by themselves are 769. What was written there is read back, and what was read there is written again

@@ -1,11 +1,12 @@
--- The capture book (01, 'Capture book'; 02, f), for the reader and for the writer.
+-- The capture book (01, 'Capture book'; 02, f and g), for the reader and for the writer.
 use mathlib.Core.Path.{_≡_}
-use mathlib.Core.Bool.{Bool, true, _&&_}
+use mathlib.Core.Bool.{Bool, true, not, _&&_}
 use mathlib.Core.List.{List, [], _∷_, _++_}
 use Prim.Native.Nat.{ℕ, zero, suc, _+_, _*_, _-_, _≤_}
+use lib.Dec.{leb, eqb}
 use lib.ListN.{length, getD, take, drop, replicate}
 use Rattle.basics.specs.Fields.{Width, one, two, four, fieldsFit, fieldsAt, fieldBytes}
-use Rattle.basics.specs.First.{Check}
+use Rattle.basics.specs.First.{Check, _when_}
 use Rattle.basics.specs.Settings.{sectionsFit, maskFits, settingsChecks}
 use Rattle.basics.specs.Table.{every}
 use Rattle.book.specs.declared.Entry.{Entry}
@@ -71,18 +72,24 @@ firstBody k = 2 + 12 * k
 abbrev pub bodyEnd : ℕ → Entry → ℕ
 bodyEnd at e = at + 4 * e .steps
 
--- n and mask of an entry are such as a group may have; refusals 31 and 32 are for those that are not
+-- the spare byte is at most 1, and 1 is hold (02, g)
+abbrev pub spareFits : Entry → Bool
+spareFits e = leb (e .spare) 1
+
+abbrev pub holdIn : Entry → Bool
+holdIn e = eqb (e .spare) 1
+
+-- spare byte, n and mask of an entry are such as a group may have; refusals 25, 31 and 32 are for those that are not
 abbrev pub settingsFit : Entry → Bool
-settingsFit e = sectionsFit (e .n) && maskFits (e .n) (e .mask)
+settingsFit e = spareFits e && sectionsFit (e .n) && maskFits (e .n) (e .mask)
 
 abbrev pub settingsFaults : Entry → List Check
-settingsFaults e = settingsChecks 31 32 (e .n) (e .mask)
+settingsFaults e = (25 when not (spareFits e)) ∷ settingsChecks 31 32 (e .n) (e .mask)
 
--- spare bytes are 0, each body starts where the one before it ends, the first at a place, and the last ends with a book of
--- that size
+-- each body starts where the one before it ends, the first at a place, and the last ends with a book of that size
 unfoldable pub InOrder : ℕ → ℕ → List Entry → Type 0
 InOrder size at [] = at ≡ size
-InOrder size at (e ∷ rest) = (e .spare ≡ 0) × (e .offset ≡ at) × InOrder size (bodyEnd at e) rest
+InOrder size at (e ∷ rest) = (e .offset ≡ at) × InOrder size (bodyEnd at e) rest
 
 -- the most bytes that a book has
 abbrev pub most : ℕ
@@ -111,9 +118,9 @@ noEntry = record { n = 0; spare = 0; mask = 0; w = 0; offset = 0; steps = 0 }
 abbrev pub places : List Entry → List Entry
 places entries = entries ++ replicate (64 - length entries) noEntry
 
--- the entries with spare 0 and with the offsets at which their bodies belong
+-- the entries with the offsets at which their bodies belong
 abbrev pub placedAt : ℕ → Entry → Entry
-placedAt at e = record { n = e .n; spare = 0; mask = e .mask; w = e .w; offset = at; steps = e .steps }
+placedAt at e = record { n = e .n; spare = e .spare; mask = e .mask; w = e .w; offset = at; steps = e .steps }
 
 unfoldable pub placed : ℕ → List Entry → List Entry
 placed at [] = []

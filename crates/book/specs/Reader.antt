@@ -1,4 +1,5 @@
--- Reading a book: refusals 20 to 24, then entry by entry 25, 31, 32, 26 and 27, then 28 (01, 'Numbered refusals'; 02, f).
+-- Reading a book: refusals 20 to 24, then entry by entry 25, 31, 32, 26 and 27, then 28 (01, 'Numbered refusals'; 02, f
+-- and g).
 use mathlib.Core.Bool.{not}
 use mathlib.Core.List.{List, [], _∷_, _++_}
 use Prim.Native.Nat.{ℕ}
@@ -19,12 +20,12 @@ headFaults book =
     ∷ (24 when ltb (length book) (firstBody (countIn book)))
     ∷ []
 
--- of an entry whose body belongs at a place of a book of that size
+-- of an entry whose body belongs at a place of a book of that size: the settings come first, then where the body is
+abbrev pub placeFaults : ℕ → ℕ → Entry → List Check
+placeFaults size at e = (26 when not (eqb (e .offset) at)) ∷ (27 when ltb size (bodyEnd at e)) ∷ []
+
 abbrev pub entryFaults : ℕ → ℕ → Entry → List Check
-entryFaults size at e =
-    (25 when not (eqb (e .spare) 0))
-    ∷ settingsFaults e
-    ++ ((26 when not (eqb (e .offset) at)) ∷ (27 when ltb size (bodyEnd at e)) ∷ [])
+entryFaults size at e = settingsFaults e ++ placeFaults size at e
 
 unfoldable pub bodyFaults : ℕ → ℕ → List Entry → List Check
 bodyFaults size at [] = (28 when ltb at size) ∷ []

@@ -1,4 +1,5 @@
--- Writing a book: refusal 23, then entry by entry 31 and 32, then 30, 20, 29 in this order (01, 'Numbered refusals'; 02, f).
+-- Writing a book: refusal 23, then entry by entry 25, 31 and 32, then 30, 20, 29 in this order (01, 'Numbered refusals'; 02,
+-- f and g).
 use mathlib.Core.Bool.{not}
 use mathlib.Core.List.{List, [], _∷_, _++_}
 use Prim.Native.Nat.{ℕ, zero, suc, _+_, _*_}

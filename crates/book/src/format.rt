@@ -3,7 +3,7 @@ use crate::Entry;
 ghost use Prim.Native.Nat.{_+_, _*_, _≤_};
 ghost use Rattle.basics.specs.Bytes.{fourBytes};
 ghost use Rattle.book.specs.Format.{most, entryIn, entryBytes, placedAt, firstBody};
-ghost use lib.ListN.{length, set};
+ghost use lib.ListN.{length};
 ghost use lib.Seq.{sets};
 ghost use mathlib.Core.Path.{_≡_};
 
@@ -49,14 +49,13 @@ pub(crate) fn entry_in(part: &[u8]) -> Entry
     }
 }
 
-// Of an entry that stands there as it was handed in: spare 0, and the offset at which its body belongs.
+// Of an entry that stands there as it was handed in: the offset at which its body belongs.
 fn put_place(part: &mut [u8], at: u32)
     requires { ⌜ 12 ≤ length (now part) ⌝ }
-    ensures { λ _. ⌜ now (part .exit) ≡ sets (set (now (part .entry)) 1 0) 6 (fourBytes at) ⌝ }
+    ensures { λ _. ⌜ now (part .exit) ≡ sets (now (part .entry)) 6 (fourBytes at) ⌝ }
 {
     let high = at / 65536;
     let low = at % 65536;
-    part[1] = 0;
     part[6] = (high / 256) as u8;
     part[7] = (high % 256) as u8;
     part[8] = (low / 256) as u8;

@@ -1,7 +1,8 @@
-// Reader and writer of capture books (01, 'Capture book' and refusals 20 to 30; 02, f: 31 and 32).
+// Reader and writer of capture books (01, 'Capture book' and refusals 20 to 30; 02, f: 31 and 32, g: hold).
 mod format;
 mod listing;
 mod reader;
+mod settings;
 mod writer;
 
 use crate::format::MOST;
@@ -15,7 +16,7 @@ use crate::reader::refusal_of;
 use crate::writer::put_book;
 use crate::writer::write_refusal;
 ghost use Rattle.basics.specs.Answer.{Answers};
-ghost use Rattle.book.specs.Format.{bodyOf, contentsIn, bytesOf};
+ghost use Rattle.book.specs.Format.{holdIn, bodyOf, contentsIn, bytesOf};
 ghost use Rattle.book.specs.Reader.{reading};
 ghost use Rattle.book.specs.Writer.{writingTold, writingCase, writing, output};
 ghost use lib.ListN.{length};
@@ -27,7 +28,8 @@ pub const INPUT: usize = MOST + 1;
 // No capture of a book has more steps, of four bytes each.
 pub const STEPS: usize = MOST / 4;
 
-// One capture: its settings n, mask and W with a spare byte, the offset of its body and the number of its steps.
+// One capture: its settings n, mask and W with a spare byte, which is 1 for hold and else 0; the offset of its body and the
+// number of its steps.
 pub struct Entry {
     pub n: u8,
     pub spare: u8,
@@ -71,6 +73,13 @@ pub fn read(book: &[u8]) -> Reading
         refusal,
         contents: Contents { count, entries },
     }
+}
+
+// The setting hold of a capture: spare byte 1 (02, g).
+pub fn hold_in(e: Entry) -> bool
+    ensures { λ r. ⌜ r ≡ holdIn e ⌝ }
+{
+    e.spare == 1
 }
 
 // The body of a capture, a part of the book: what the book has of it, where the entry is not one that was read there.

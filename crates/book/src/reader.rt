@@ -1,10 +1,10 @@
-// Refusals 20 to 28, 31 and 32, and the count of a book that has none (01, 'Numbered refusals'; 02, f).
+// Refusals 20 to 28, 31 and 32, and the count of a book that has none (01, 'Numbered refusals'; 02, f and g).
 use crate::Entry;
 use crate::format::MOST;
 use crate::format::body_size;
 use crate::format::entry_in;
 use crate::format::first_body;
-use basics::settings::settings_refusal;
+use crate::settings::settings_refusal_of;
 ghost use Prim.Native.Nat.{_≤_};
 ghost use Rattle.basics.specs.First.{firstOf};
 ghost use Rattle.book.specs.Format.{most};
@@ -49,10 +49,7 @@ fn entry_refusal(size: usize, at: usize, e: Entry) -> u8
 {
     let elsewhere = e.offset as usize != at;
     let past = size < at + body_size(e);
-    let settings = settings_refusal(e.n, e.mask, 31, 32);
-    if e.spare != 0 {
-        return 25;
-    }
+    let settings = settings_refusal_of(e);
     if settings != 0 {
         return settings;
     }

@@ -1,12 +1,12 @@
-// Refusals 23, 31, 32, 30, 20 and 29, and the bytes of a book that has none of them (01, 'Capture book'; 02, f). What is
-// handed in are contents in 769 bytes by themselves.
+// Refusals 23, 25, 31, 32, 30, 20 and 29, and the bytes of a book that has none of them (01, 'Capture book'; 02, f and g).
+// What is handed in are contents in 769 bytes by themselves.
 use crate::format::MOST;
 use crate::format::body_size;
 use crate::format::entry_in;
 use crate::format::first_body;
 use crate::format::put_body;
 use crate::format::put_entry;
-use basics::settings::settings_refusal;
+use crate::settings::settings_refusal_of;
 ghost use Prim.Native.Nat.{_+_, _*_, _≤_};
 ghost use Rattle.basics.specs.First.{firstOf};
 ghost use Rattle.book.specs.Format.{contentsIn, firstBody, placed, contentsBytes, bookOf};
@@ -26,7 +26,7 @@ fn settings_in(contents: &[u8]) -> u8
     while i < count as usize {
         let start = 1 + 12 * i;
         let e = entry_in(&contents[start..]);
-        let number = settings_refusal(e.n, e.mask, 31, 32);
+        let number = settings_refusal_of(e);
         if number != 0 {
             return number;
         }

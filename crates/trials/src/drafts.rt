@@ -52,11 +52,11 @@ pub(crate) fn front(bytes: &[u8], n: usize) -> &[u8] {
     if bytes.len() < n { bytes } else { &bytes[..n] }
 }
 
-// The writer looks at neither spare nor offset.
-pub(crate) fn place(n: u8, mask: u16, w: u16, steps: u16) -> Entry {
+// The writer does not look at the offset.
+pub(crate) fn place(n: u8, spare: u8, mask: u16, w: u16, steps: u16) -> Entry {
     Entry {
         n,
-        spare: 9,
+        spare,
         mask,
         w,
         offset: 12345678,
@@ -66,42 +66,42 @@ pub(crate) fn place(n: u8, mask: u16, w: u16, steps: u16) -> Entry {
 
 // A place past the count, which the writer does not look at: it would be refused.
 pub(crate) fn unseen() -> Entry {
-    place(0, 9, 9, 9)
+    place(0, 9, 9, 9, 9)
 }
 
 fn still_place(i: u16) -> Entry {
     if i == 0 {
-        return place(1, 0, 0, 0);
+        return place(1, 0, 0, 0, 0);
     }
     if i == 1 {
-        return place(14, 16383, 1, 1);
+        return place(14, 0, 16383, 1, 1);
     }
-    place(1, 1, 65535, 0)
+    place(1, 0, 1, 65535, 0)
 }
 
-// Every n, with masks that fit it.
+// Every n, with masks that fit it, and every other one with hold.
 fn many_place(i: u16) -> Entry {
     let j = i % 64;
     let k = j % 14;
     let mask = (1000 * j + 7) >> (15 - k);
-    place((k + 1) as u8, mask, 65535 - j, j % 5)
+    place((k + 1) as u8, (j % 2) as u8, mask, 65535 - j, j % 5)
 }
 
-// Every n, with all sections of high priority.
+// Every n, with all sections of high priority, and with hold.
 fn quiet_place(i: u16) -> Entry {
     let k = i % 14;
     let mask = 65535 >> (2 + k);
-    place((14 - k) as u8, mask, 300, 0)
+    place((14 - k) as u8, 1, mask, 300, 0)
 }
 
 // The contents by number: empty, paper, still, many, quiet, largest.
 fn place_of(kind: usize, i: u16) -> Entry {
     match kind {
-        1 => place(2, 0, 3, 3 - i % 2),
+        1 => place(2, 0, 0, 3, 3 - i % 2),
         2 => still_place(i),
         3 => many_place(i),
         4 => quiet_place(i),
-        _ => place(14, 10922, 300, 16380),
+        _ => place(14, 0, 10922, 300, 16380),
     }
 }
 

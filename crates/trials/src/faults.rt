@@ -10,7 +10,7 @@ use text::print_labelled;
 use text::print_list;
 use text::print_number;
 
-const FAULTS: usize = 33;
+const FAULTS: usize = 34;
 
 // What a fault sets: the byte at a place, or the length of the book.
 struct Change {
@@ -42,7 +42,7 @@ fn change_of(f: usize) -> Change {
         7 => byte(1, 255),
         8 => length(25),
         9 => byte(1, 4),
-        10 => byte(3, 1),
+        10 => byte(3, 2),
         11 => byte(15, 255),
         12 => byte(11, 27),
         13 => byte(11, 25),
@@ -65,6 +65,7 @@ fn change_of(f: usize) -> Change {
         30 => byte(16, 128),
         31 => byte(2, 1),
         32 => byte(5, 3),
+        33 => byte(3, 1),
         _ => byte(NOWHERE, 0),
     }
 }

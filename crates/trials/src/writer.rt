@@ -13,14 +13,16 @@ use text::print;
 use text::print_labelled;
 use text::print_number;
 
-const FAULTS: usize = 20;
+const FAULTS: usize = 23;
 
-// What the writer is handed: the count, n, mask and steps of places 0 and 1, the bytes of the bodies, the room of the
-// output.
+// What the writer is handed: the count, n, spare byte, mask and steps of places 0 and 1, the bytes of the bodies, the room of
+// the output.
 struct Call {
     pub count: u8,
     pub n0: u8,
     pub n1: u8,
+    pub spare0: u8,
+    pub spare1: u8,
     pub mask0: u16,
     pub mask1: u16,
     pub first: u16,
@@ -38,6 +40,12 @@ impl Call {
     fn sized(mut self, n0: u8, n1: u8) -> Call {
         self.n0 = n0;
         self.n1 = n1;
+        self
+    }
+
+    fn spared(mut self, spare0: u8, spare1: u8) -> Call {
+        self.spare0 = spare0;
+        self.spare1 = spare1;
         self
     }
 
@@ -84,14 +92,17 @@ impl Call {
             17 => self.masked(self.mask0, 32768),
             18 => self.sized(self.n0, 1),
             19 => self.masked(self.mask0, 3),
+            20 => self.spared(2, self.spare1),
+            21 => self.spared(self.spare0, 255),
+            22 => self.spared(1, self.spare1),
             _ => self,
         }
     }
 
     fn contents(self) -> Contents {
         let mut entries = [unseen(); 64];
-        entries[0] = place(self.n0, self.mask0, 3, self.first);
-        entries[1] = place(self.n1, self.mask1, 3, self.second);
+        entries[0] = place(self.n0, self.spare0, self.mask0, 3, self.first);
+        entries[1] = place(self.n1, self.spare1, self.mask1, 3, self.second);
         Contents {
             count: self.count,
             entries,
@@ -104,6 +115,8 @@ fn paper_call() -> Call {
         count: 2,
         n0: 2,
         n1: 2,
+        spare0: 0,
+        spare1: 0,
         mask0: 0,
         mask1: 0,
         first: 3,

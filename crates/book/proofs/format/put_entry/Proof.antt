@@ -3,8 +3,8 @@ use mathlib.Core.Path.{_≡_, sym, ap, _∙_}
 use mathlib.Core.List.{List}
 use Prim.Native.Nat.{ℕ}
 use native.Mathlib.Omega.{arith}
-use lib.ListN.{length, set, take, replicate, length-set}
-use lib.Seq.{sets, length-sets, length-take-le}
+use lib.ListN.{length, take, replicate}
+use lib.Seq.{sets, length-take-le}
 use borrow.Author.Needs.{needs}
 use Rattle.basics.specs.Bytes.{fourBytes}
 use Rattle.basics.proofs.Bytes.{copied, over-all}
@@ -53,7 +53,7 @@ returns c =
     let taken : up .last .1 .0 ≡ take 12 entry = up .ensures .1 ∙ over-all (take 12 entry) (replicate 12 0) long in
     let placed : place .last .0 ≡ entryBytes (placedAt at (entryIn entry)) =
     place .ensures
-    ∙ ap (λ (l : List ℕ). sets (set l 1 0) 6 (fourBytes at)) taken
+    ∙ ap (λ (l : List ℕ). sets l 6 (fourBytes at)) taken
     ∙ sym (entry-placed entry (λ i. known .shared-slice-known .given i .fits) (start .pre .0) at) in
     let whole : length (place .last .0) ≡ 12 = ap length placed ∙ length-entry (placedAt at (entryIn entry)) in
     c .before .before .copy2 .ensures .1

@@ -44,16 +44,16 @@ part-entry-in-end c = search needs
 entry-in-requires : tie.Need-entry-in-requires Inv-loop μ-loop
 entry-in-requires c κs = search needs
 
-settings-refusal-requires : tie.Need-settings-refusal-requires Inv-loop μ-loop
-settings-refusal-requires c κs = search needs
+settings-refusal-of-requires : tie.Need-settings-refusal-of-requires Inv-loop μ-loop
+settings-refusal-of-requires c κs = search needs
 
 returns : tie.Need-returns Inv-loop μ-loop
 returns c =
     let contents = c .before .before .before .before .before .before .before .before .args .contents .now in
     let w = c .before .before .before .before .before .loop in
     let read = c .before .before .entry-in .ensures ∙ ap entryIn (rest-part (1 + 12 * w .i) contents) in
-    ask-refused contents (w .inv) (c .before .before .before .before .loop-test .taken) (c .before .settings-refusal .result)
-    (c .before .settings-refusal .ensures ∙ ap (λ (e : Entry). firstOf (settingsFaults e)) read) (c .if1 .taken)
+    ask-refused contents (w .inv) (c .before .before .before .before .loop-test .taken) (c .before .settings-refusal-of .result)
+    (c .before .settings-refusal-of .ensures ∙ ap (λ (e : Entry). firstOf (settingsFaults e)) read) (c .if1 .taken)
 
 add-i : tie.Need-add-i Inv-loop μ-loop
 add-i c = search needs
@@ -67,7 +67,7 @@ loop-again c =
     let w = c .before .before .before .before .before .loop in
     let read = c .before .before .entry-in .ensures ∙ ap entryIn (rest-part (1 + 12 * w .i) contents) in
     ask-next contents (w .inv) (c .before .before .before .before .loop-test .taken)
-    (ap (λ (e : Entry). firstOf (settingsFaults e)) (sym read) ∙ sym (c .before .settings-refusal .ensures) ∙ c .if1 .left)
+    (ap (λ (e : Entry). firstOf (settingsFaults e)) (sym read) ∙ sym (c .before .settings-refusal-of .ensures) ∙ c .if1 .left)
 
 returns-2 : tie.Need-returns-2 Inv-loop μ-loop
 returns-2 c =
@@ -88,7 +88,7 @@ settings-in-spec =
     part-entry-in-start
     part-entry-in-end
     entry-in-requires
-    settings-refusal-requires
+    settings-refusal-of-requires
     returns
     add-i
     loop-less

@@ -7,10 +7,10 @@ use Rattle.trials.proofs.faults.print_alone.Statement.{statement}
 use Rattle.trials.proofs.faults.print_alone.Tie as tie
 
 abbrev Inv-loop : tie.InvT-loop
-Inv-loop book₀ f₀ book f = (length book ≡ length book₀) × (f ≤ 33)
+Inv-loop book₀ f₀ book f = (length book ≡ length book₀) × (f ≤ 34)
 
 abbrev μ-loop : tie.MeasureT-loop
-μ-loop book₀ f₀ book f = 33 - f
+μ-loop book₀ f₀ book f = 34 - f
 
 slice-aggregate-print : tie.Need-slice-aggregate-print Inv-loop μ-loop
 slice-aggregate-print c = search needs

@@ -7,10 +7,10 @@ use Rattle.trials.proofs.faults.print_row.Statement.{statement}
 use Rattle.trials.proofs.faults.print_row.Tie as tie
 
 abbrev Inv-loop : tie.InvT-loop
-Inv-loop book₀ f g₀ t5 book g = (length book ≡ length book₀) × (g ≤ 33)
+Inv-loop book₀ f g₀ t5 book g = (length book ≡ length book₀) × (g ≤ 34)
 
 abbrev μ-loop : tie.MeasureT-loop
-μ-loop book₀ f g₀ t5 book g = 33 - g
+μ-loop book₀ f g₀ t5 book g = 34 - g
 
 print-number-requires : tie.Need-print-number-requires Inv-loop μ-loop
 print-number-requires c κs = search needs

@@ -7,10 +7,10 @@ use Rattle.trials.proofs.writer.print_calls.Statement.{statement}
 use Rattle.trials.proofs.writer.print_calls.Tie as tie
 
 abbrev Inv-loop : tie.InvT-loop
-Inv-loop bodies out₀ i₀ out i = (length out ≡ length out₀) × (i ≤ 400)
+Inv-loop bodies out₀ i₀ out i = (length out ≡ length out₀) × (i ≤ 529)
 
 abbrev μ-loop : tie.MeasureT-loop
-μ-loop bodies out₀ i₀ out i = 400 - i
+μ-loop bodies out₀ i₀ out i = 529 - i
 
 slice-aggregate-print : tie.Need-slice-aggregate-print Inv-loop μ-loop
 slice-aggregate-print c = search needs
