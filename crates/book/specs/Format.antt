@@ -3,11 +3,10 @@ use mathlib.Core.Path.{_≡_}
 use mathlib.Core.Bool.{Bool, true, not, _&&_}
 use mathlib.Core.List.{List, [], _∷_, _++_}
 use Prim.Native.Nat.{ℕ, zero, suc, _+_, _*_, _-_, _≤_}
-use lib.Dec.{leb, eqb}
 use lib.ListN.{length, getD, take, drop, replicate}
 use Rattle.basics.specs.Fields.{Width, one, two, four, fieldsFit, fieldsAt, fieldBytes}
 use Rattle.basics.specs.First.{Check, _when_}
-use Rattle.basics.specs.Settings.{sectionsFit, maskFits, settingsChecks}
+use Rattle.basics.specs.Settings.{sectionsFit, maskFits, optionsFit, holdOf, settingsChecks}
 use Rattle.basics.specs.Table.{every}
 use Rattle.book.specs.declared.Entry.{Entry}
 use Rattle.book.specs.declared.Contents.{Contents}
@@ -72,12 +71,12 @@ firstBody k = 2 + 12 * k
 abbrev pub bodyEnd : ℕ → Entry → ℕ
 bodyEnd at e = at + 4 * e .steps
 
--- the spare byte is at most 1, and 1 is hold (02, g)
+-- the spare byte holds the options: at most 1, and 1 is hold (02, g)
 abbrev pub spareFits : Entry → Bool
-spareFits e = leb (e .spare) 1
+spareFits e = optionsFit (e .spare)
 
 abbrev pub holdIn : Entry → Bool
-holdIn e = eqb (e .spare) 1
+holdIn e = holdOf (e .spare)
 
 -- spare byte, n and mask of an entry are such as a group may have; refusals 25, 31 and 32 are for those that are not
 abbrev pub settingsFit : Entry → Bool

@@ -1,7 +1,7 @@
 -- A book with the longest table: 64 captures of 14 sections, ten of 1,001 steps and the others of 101, each explained but for its
 -- last step.
 use mathlib.Core.Path.{_≡_, refl, sym, ap, subst, _∙_}
-use mathlib.Core.Bool.{true, and-eq-true-iff}
+use mathlib.Core.Bool.{true, false, and-eq-true-iff}
 use mathlib.Core.List.{List, [], _∷_, _++_, append-assoc}
 use Prim.Native.Nat.{ℕ, zero, suc, _+_, _*_, _≤_}
 use native.Mathlib.Nat.{add-zero, zero-add, add-suc, suc-add}
@@ -41,7 +41,7 @@ length-body : (k : ℕ) → length (body k) ≡ 4 * (k + 1)
 length-body zero = refl
 length-body (suc k) = let rest = length-body k in omega arith
 
-scan-body : (k i : ℕ) → scanFrom next live i (start (fresh 14 0 0)) (rowsOf (body k)) ≡ first (i + k)
+scan-body : (k i : ℕ) → scanFrom next live i (start (fresh 14 false 0 0)) (rowsOf (body k)) ≡ first (i + k)
 unfolding next arises unseen answers finding usable carries listed rankOf rankIn
 scan-body zero i = ap first (sym (add-zero i))
 scan-body (suc k) i = scan-body k (suc i) ∙ ap first (suc-add i k ∙ sym (add-suc i k))
@@ -86,7 +86,7 @@ module _ (book : List ℕ) where
       let long = ap length here ∙ length-body k in
       scanned-judged book (placedAt at (entry k)) (verdict.Unexplained k) refl refl
       (fit-size (length (bodyOf book (placedAt at (entry k)))) (omega arith) (omega arith))
-      (ap (scanned (fresh 14 0 0)) here ∙ ap verdictOf (scan-body k 0 ∙ ap first (zero-add k)))
+      (ap (scanned (fresh 14 false 0 0)) here ∙ ap verdictOf (scan-body k 0 ∙ ap first (zero-add k)))
 
   all-judged : (ks before : List ℕ) → book ≡ before ++ bodies ks → every (λ k. leb k 1000) ks ≡ true
       → AreVerdicts book (placed (length before) (entries ks)) (firsts ks)

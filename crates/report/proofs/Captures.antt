@@ -1,7 +1,7 @@
 -- A capture of a book: its settings fit and its body is whole steps, no more of them than the judge takes. So the judge does not
 -- refuse it, and names no step that it does not have.
 use mathlib.Core.Path.{_≡_, ap, _∙_}
-use mathlib.Core.Bool.{true, and-eq-true-iff}
+use mathlib.Core.Bool.{true, _&&_, and-eq-true-iff}
 use mathlib.Core.List.{List}
 use mathlib.Core.Logic.{inl, inr, ⊎-elim}
 use Prim.Native.Nat.{ℕ, _*_, _%_, _≤_, _<_}
@@ -14,7 +14,7 @@ use Rattle.basics.specs.First.{firstOf}
 use Rattle.basics.specs.Settings.{sectionsFit, maskFits}
 use Rattle.basics.proofs.Rows.{rows-long}
 use Rattle.basics.proofs.Table.{at-entry}
-use Rattle.book.specs.Format.{settingsFit, most, bodyOf, noEntry}
+use Rattle.book.specs.Format.{spareFits, holdIn, settingsFit, most, bodyOf, noEntry}
 use Rattle.book.specs.Reader.{reading}
 use Rattle.book.specs.Writer.{counted}
 use Rattle.book.specs.declared.Entry.{Entry}
@@ -35,7 +35,9 @@ module _ (book : List ℕ) where
   module _ (e : Entry) (fits : settingsFit e ≡ true) (long : length (bodyOf book e) ≡ 4 * e .steps)
       (small : length (bodyOf book e) ≤ most) where
     pub both-fit : (sectionsFit (e .n) ≡ true) × (maskFits (e .n) (e .mask) ≡ true)
-    both-fit = and-eq-true-iff (sectionsFit (e .n)) (maskFits (e .n) (e .mask)) .0 fits
+    both-fit =
+        let mask = and-eq-true-iff (spareFits e && sectionsFit (e .n)) (maskFits (e .n) (e .mask)) .0 fits in
+        (and-eq-true-iff (spareFits e) (sectionsFit (e .n)) .0 (mask .0) .1, mask .1)
 
     pub unrefused : firstOf (judgeFaults (e .n) (e .mask) (length (bodyOf book e))) ≡ 0
     unrefused =
@@ -51,7 +53,7 @@ module _ (book : List ℕ) where
 
     pub judged-within : (v : Verdict) → IsVerdict book e v → Within (e .steps) v
     judged-within v right =
-        go v (found (e .n) (e .mask) (e .w) (bodyOf book e) (told v) right unrefused)
+        go v (found (e .n) (holdIn e) (e .mask) (e .w) (bodyOf book e) (told v) right unrefused)
       where
         at-same : {j k : Judging} → j ≡ k → j .at ≡ k .at
         at-same same = ap (λ (j : Judging). j .at) same
@@ -59,12 +61,12 @@ module _ (book : List ℕ) where
         verdict-same : {j k : Judging} → j ≡ k → j .verdict ≡ k .verdict
         verdict-same same = ap (λ (j : Judging). j .verdict) same
 
-        go : (v : Verdict) → Found (e .n) (e .mask) (e .w) (rowsOf (bodyOf book e)) (told v) → Within (e .steps) v
+        go : (v : Verdict) → Found (e .n) (holdIn e) (e .mask) (e .w) (rowsOf (bodyOf book e)) (told v) → Within (e .steps) v
         go (verdict.Explained k) (inl (same, some)) = at-same same ∙ rows-all
         go (verdict.Explained k) (inr (i, same, some, none)) = absurd (omega (arith, verdict-same same))
         go (verdict.Unexplained k) (inl (same, some)) = absurd (omega (arith, verdict-same same))
         go (verdict.Unexplained k) (inr (i, same, some, none)) =
-            omega (arith, at-same same, rows-all, first-within (e .n) (e .mask) (e .w) (rowsOf (bodyOf book e)) i some none)
+            omega (arith, at-same same, rows-all, first-within (e .n) (holdIn e) (e .mask) (e .w) (rowsOf (bodyOf book e)) i some none)
         go (verdict.Refused k) (inl (same, some)) = absurd (omega (arith, verdict-same same))
         go (verdict.Refused k) (inr (i, same, some, none)) = absurd (omega (arith, verdict-same same))
 
@@ -84,8 +86,8 @@ module _ (book : List ℕ) (none : reading book .refusal ≡ 0) (i : ℕ) (h : i
         test .1 entry,
       )
 
-  pub capture-judged : (j : Judging) → Right (entry .n) (entry .mask) (entry .w) (bodyOf book entry) j → j .refusal ≡ 0
+  pub capture-judged : (j : Judging) → Right (entry .n) (holdIn entry) (entry .mask) (entry .w) (bodyOf book entry) j → j .refusal ≡ 0
   capture-judged j right =
       ⊎-elim (λ told. ap (λ (a : Judging). a .refusal) (told .0)) (λ told. ap (λ (a : Judging). a .refusal) (told .1))
-      (found (entry .n) (entry .mask) (entry .w) (bodyOf book entry) j right
+      (found (entry .n) (holdIn entry) (entry .mask) (entry .w) (bodyOf book entry) j right
       (unrefused book entry capture-fits (capture-whole .0) (capture-whole .1)))

@@ -9,7 +9,7 @@ use lib.ListN.{length, getD, drop}
 use denote.Ref.{now}
 use Rattle.basics.specs.Table.{every}
 use Rattle.basics.proofs.One.{OneAnswer, OneContent}
-use Rattle.book.specs.Format.{most, bodyOf, noEntry}
+use Rattle.book.specs.Format.{most, holdIn, bodyOf, noEntry}
 use Rattle.book.specs.Reader.{reading}
 use Rattle.book.specs.Writer.{counted}
 use Rattle.explain.specs.Verdict.{Judging, Right}
@@ -65,7 +65,7 @@ longest-there = (longestBook, longestTable, longest-bytes, longest-table, longes
 captures-judged : (book : List ℕ) → reading book .refusal ≡ 0
     → (i : ℕ) → i < length (counted (reading book .contents)) →
     let e = getD (counted (reading book .contents)) i noEntry in
-    (j : Judging) → Right (e .n) (e .mask) (e .w) (bodyOf book e) j → j .refusal ≡ 0
+    (j : Judging) → Right (e .n) (holdIn e) (e .mask) (e .w) (bodyOf book e) j → j .refusal ≡ 0
 captures-judged = capture-judged
 
 -- The paper's example book has the paper's three lines; a book without captures has the header alone; and more than 65,536 bytes

@@ -9,7 +9,7 @@ use lib.ListN.{length}
 use Rattle.basics.specs.Capture.{rowsOf, sizeFaults}
 use Rattle.basics.specs.First.{firstOf}
 use Rattle.basics.specs.Settings.{sectionsFit, maskFits}
-use Rattle.book.specs.Format.{bodyOf}
+use Rattle.book.specs.Format.{holdIn, bodyOf}
 use Rattle.book.specs.declared.Entry.{Entry}
 use Rattle.controller.specs.Settings.{fresh}
 use Rattle.explain.specs.Verdict.{Judging, told, judgeFaults, RightBehind, Right}
@@ -21,9 +21,9 @@ use Rattle.explain.proofs.Judged.{scanned-right, right-some}
 use Rattle.report.specs.Table.{IsVerdict, AreVerdicts}
 
 -- the case of the enum that a right answer is
-right-case : (n mask w : ℕ) (bytes : List ℕ) (j : Judging) → Right n mask w bytes j → (v : Verdict) × (told v ≡ j)
+right-case : (n : ℕ) (hold : Bool) (mask w : ℕ) (bytes : List ℕ) (j : Judging) → Right n hold mask w bytes j → (v : Verdict) × (told v ≡ j)
 unfolding RightBehind
-right-case n mask w bytes j right = go (eqb (firstOf (judgeFaults n mask (length bytes))) 0) refl
+right-case n hold mask w bytes j right = go (eqb (firstOf (judgeFaults n mask (length bytes))) 0) refl
   where
     go : (t : Bool) → eqb (firstOf (judgeFaults n mask (length bytes))) 0 ≡ t → (v : Verdict) × (told v ≡ j)
     go true e =
@@ -34,20 +34,20 @@ right-case n mask w bytes j right = go (eqb (firstOf (judgeFaults n mask (length
 module _ (book : List ℕ) where
   pub judged-some : (e : Entry) → (v : Verdict) × IsVerdict book e v
   judged-some e =
-      let some = right-some (e .n) (e .mask) (e .w) (bodyOf book e) (sizeFaults (length (bodyOf book e))) in
-      let case = right-case (e .n) (e .mask) (e .w) (bodyOf book e) (some .0) (some .1) in
-      (case .0, subst (Right (e .n) (e .mask) (e .w) (bodyOf book e)) (sym (case .1)) (some .1))
+      let some = right-some (e .n) (holdIn e) (e .mask) (e .w) (bodyOf book e) (sizeFaults (length (bodyOf book e))) in
+      let case = right-case (e .n) (holdIn e) (e .mask) (e .w) (bodyOf book e) (some .0) (some .1) in
+      (case .0, subst (Right (e .n) (holdIn e) (e .mask) (e .w) (bodyOf book e)) (sym (case .1)) (some .1))
 
-  -- and it is what the judge's scan gives, which can be computed
+  -- and it is what the judge's scan gives, which goes without hold and can be computed
   pub scanned-judged : (e : Entry) (v : Verdict) → sectionsFit (e .n) ≡ true → maskFits (e .n) (e .mask) ≡ true
       → firstOf (sizeFaults (length (bodyOf book e))) ≡ 0
-      → scanned (fresh (e .n) (e .mask) (e .w)) (bodyOf book e) ≡ told v → IsVerdict book e v
+      → scanned (fresh (e .n) false (e .mask) (e .w)) (bodyOf book e) ≡ told v → IsVerdict book e v
   scanned-judged e v fits mask-fits size same =
-      subst (Right (e .n) (e .mask) (e .w) (bodyOf book e)) same
-      (scanned-right (e .n) (e .mask) (e .w) (bodyOf book e) (sizeFaults (length (bodyOf book e))) fits mask-fits size)
+      subst (Right (e .n) (holdIn e) (e .mask) (e .w) (bodyOf book e)) same
+      (scanned-right (e .n) (holdIn e) (e .mask) (e .w) (bodyOf book e) (sizeFaults (length (bodyOf book e))) fits mask-fits size)
 
   pub judged-one : (e : Entry) (v v′ : Verdict) → IsVerdict book e v → IsVerdict book e v′ → v ≡ v′
-  judged-one e v v′ p q = told-one v v′ (answer-one _ _ _ _ _ _ _ p q)
+  judged-one e v v′ p q = told-one v v′ (answer-one _ _ _ _ _ _ _ _ p q)
 
   abbrev pub verdicts : List Entry → List Verdict
   verdicts [] = []

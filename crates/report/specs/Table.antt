@@ -7,7 +7,7 @@ use Prim.Native.String.{String, [] as none, _∷_ as _then_}
 use lib.Dec.{eqb}
 use lib.ListN.{length, drop}
 use Rattle.basics.specs.Choice.{if_then_else_}
-use Rattle.book.specs.Format.{entriesOf, bodyOf}
+use Rattle.book.specs.Format.{entriesOf, holdIn, bodyOf}
 use Rattle.book.specs.Reader.{refusal}
 use Rattle.book.specs.declared.Entry.{Entry}
 use Rattle.explain.specs.Verdict.{told, Right}
@@ -47,9 +47,10 @@ linesText number (e ∷ entries) (v ∷ verdicts) = lineText number e v ++ lines
 linesText number [] (v ∷ verdicts) = []
 linesText number (e ∷ entries) [] = []
 
--- a verdict is that of a capture of the book if it is the judge's right answer; and verdicts, one a capture, if each is
+-- a verdict is that of a capture of the book if it is the judge's right answer, by the capture's settings, hold with them (02,
+-- g); and verdicts, one a capture, if each is
 abbrev pub IsVerdict : List ℕ → Entry → Verdict → Type 0
-IsVerdict book e v = Right (e .n) (e .mask) (e .w) (bodyOf book e) (told v)
+IsVerdict book e v = Right (e .n) (holdIn e) (e .mask) (e .w) (bodyOf book e) (told v)
 
 abbrev pub AreVerdicts : List ℕ → List Entry → List Verdict → Type 0
 AreVerdicts book [] [] = Unit {0}

@@ -2,6 +2,7 @@
 // the next one does.
 use book::Entry;
 use book::body;
+use book::hold_in;
 use explain::Verdict;
 use explain::judge;
 ghost use Rattle.page.specs.Digits.{decimal};
@@ -56,7 +57,7 @@ pub(crate) fn put_capture(page: &mut [u8], at: usize, book: &[u8], number: usize
     requires { ⌜ LineRoom (now page) at (now book) number e ⌝ }
     ensures { λ r. ⌜ PutLine (now (page .entry)) at (now (book .entry)) number e (now (page .exit)) r ⌝ }
 {
-    let verdict = judge(e.n, e.mask, e.w, body(book, e));
+    let verdict = judge(e.n, hold_in(e), e.mask, e.w, body(book, e));
     let at = put_number(page, at, number as u64, b" ");
     let at = put_number(page, at, e.n as u64, b" ");
     put_verdict(page, at, e.steps, verdict)
