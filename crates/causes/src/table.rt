@@ -7,6 +7,7 @@ use basics::four_at;
 use book::Contents;
 use book::Entry;
 use book::body;
+use book::hold_in;
 use book::read;
 use explain::Verdict;
 use explain::judge_causes;
@@ -15,6 +16,9 @@ use page::put;
 use page::put_field;
 use page::put_last;
 ghost use Prim.Native.Nat.{_≤_};
+ghost use Rattle.book.specs.Format.{holdIn, bodyOf};
+ghost use Rattle.explain.specs.Causes.{Causes};
+ghost use Rattle.explain.specs.Verdict.{told};
 
 // Each step of an explained capture has a word in either table (02, a). The tests stand in the place of a proof of that here.
 fn conditions_at(table: &[u32], i: usize) -> u32 {
@@ -56,6 +60,13 @@ fn put_verdict(page: &mut [u8], at: usize, number: usize, word: &[u8], v: u64) -
     put_last(page, at, word, v)
 }
 
+// The causes of a capture, by its own settings, hold with them (02, g).
+fn causes_of(book: &[u8], e: Entry, conditions: &mut [u32], commands: &mut [u16]) -> Verdict
+    ensures { λ r. ⌜ Causes (e .n) (holdIn e) (e .mask) (e .w) (bodyOf (now (book .entry)) e) (now (conditions .entry)) (now (commands .entry)) (told r) (now (conditions .exit)) (now (commands .exit)) ⌝ }
+{
+    judge_causes(e.n, hold_in(e), e.mask, e.w, body(book, e), conditions, commands)
+}
+
 // The last case does not come up: of a book that was read no capture is refused here (`captures-caused` of `chainplater`).
 fn put_capture(
     page: &mut [u8],
@@ -67,7 +78,7 @@ fn put_capture(
     commands: &mut [u16],
 ) -> usize {
     let rows = body(book, e);
-    let verdict = judge_causes(e.n, e.mask, e.w, rows, conditions, commands);
+    let verdict = causes_of(book, e, conditions, commands);
     match verdict {
         Verdict::Explained(_) => put_steps(page, at, number, e.n, rows, conditions, commands),
         Verdict::Unexplained(first) => put_verdict(page, at, number, b"unexplained ", first as u64),

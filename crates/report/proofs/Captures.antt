@@ -1,7 +1,7 @@
 -- A capture of a book: its settings fit and its body is whole steps, no more of them than the judge takes. So the judge does not
 -- refuse it, and names no step that it does not have.
 use mathlib.Core.Path.{_≡_, ap, _∙_}
-use mathlib.Core.Bool.{true, _&&_, and-eq-true-iff}
+use mathlib.Core.Bool.{true}
 use mathlib.Core.List.{List}
 use mathlib.Core.Logic.{inl, inr, ⊎-elim}
 use Prim.Native.Nat.{ℕ, _*_, _%_, _≤_, _<_}
@@ -14,10 +14,11 @@ use Rattle.basics.specs.First.{firstOf}
 use Rattle.basics.specs.Settings.{sectionsFit, maskFits}
 use Rattle.basics.proofs.Rows.{rows-long}
 use Rattle.basics.proofs.Table.{at-entry}
-use Rattle.book.specs.Format.{spareFits, holdIn, settingsFit, most, bodyOf, noEntry}
+use Rattle.book.specs.Format.{holdIn, settingsFit, most, bodyOf, noEntry}
 use Rattle.book.specs.Reader.{reading}
 use Rattle.book.specs.Writer.{counted}
 use Rattle.book.specs.declared.Entry.{Entry}
+use Rattle.book.proofs.Refusals.{fit-each}
 use Rattle.book.proofs.Trips.{read-fit, read-whole}
 use Rattle.explain.specs.Verdict.{Judging, told, judgeFaults, Found, Right}
 use Rattle.explain.specs.declared.Verdict.{Verdict}
@@ -35,9 +36,7 @@ module _ (book : List ℕ) where
   module _ (e : Entry) (fits : settingsFit e ≡ true) (long : length (bodyOf book e) ≡ 4 * e .steps)
       (small : length (bodyOf book e) ≤ most) where
     pub both-fit : (sectionsFit (e .n) ≡ true) × (maskFits (e .n) (e .mask) ≡ true)
-    both-fit =
-        let mask = and-eq-true-iff (spareFits e && sectionsFit (e .n)) (maskFits (e .n) (e .mask)) .0 fits in
-        (and-eq-true-iff (spareFits e) (sectionsFit (e .n)) .0 (mask .0) .1, mask .1)
+    both-fit = let each = fit-each e fits in (each .1, each .2)
 
     pub unrefused : firstOf (judgeFaults (e .n) (e .mask) (length (bodyOf book e))) ≡ 0
     unrefused =
