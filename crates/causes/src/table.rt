@@ -64,7 +64,15 @@ fn put_verdict(page: &mut [u8], at: usize, number: usize, word: &[u8], v: u64) -
 fn causes_of(book: &[u8], e: Entry, conditions: &mut [u32], commands: &mut [u16]) -> Verdict
     ensures { λ r. ⌜ Causes (e .n) (holdIn e) (e .mask) (e .w) (bodyOf (now (book .entry)) e) (now (conditions .entry)) (now (commands .entry)) (told r) (now (conditions .exit)) (now (commands .exit)) ⌝ }
 {
-    judge_causes(e.n, hold_in(e), e.mask, e.w, body(book, e), conditions, commands)
+    judge_causes(
+        e.n,
+        hold_in(e),
+        e.mask,
+        e.w,
+        body(book, e),
+        conditions,
+        commands,
+    )
 }
 
 // The last case does not come up: of a book that was read no capture is refused here (`captures-caused` of `chainplater`).

@@ -14,7 +14,7 @@ use Rattle.explain.specs.Verdict.{Judging}
 use Rattle.explain.proofs.Tables.{judged}
 use Rattle.switches.specs.Extend.{extending}
 use Rattle.switches.proofs.Grown.{afresh-all}
-use Rattle.book.specs.Format.{bodyOf, noEntry}
+use Rattle.book.specs.Format.{holdIn, bodyOf, noEntry}
 use Rattle.book.specs.Reader.{reading}
 use Rattle.book.specs.Writer.{counted}
 use Rattle.book.specs.declared.Entry.{Entry}
@@ -31,13 +31,13 @@ module _ (book : List ℕ) (none : reading book .refusal ≡ 0) (i : ℕ) (h : i
       fit-settings 1 2 (entry .n) (entry .mask) (fits .0) (fits .1)
 
   pub capture-fresh :
-      making (entry .n) (entry .mask) (entry .w)
-      ≡ record { refusal = 0; controller = fresh (entry .n) (entry .mask) (entry .w) }
+      making (entry .n) (holdIn entry) (entry .mask) (entry .w)
+      ≡ record { refusal = 0; controller = fresh (entry .n) (holdIn entry) (entry .mask) (entry .w) }
   unfolding making
   capture-fresh = rw unrefused
 
   pub capture-caused : (old old2 new new2 : List ℕ) → 16384 ≤ length old → 16384 ≤ length old2 → (j : Judging)
-      → Causes (entry .n) (entry .mask) (entry .w) (bodyOf book entry) old old2 j new new2 → j .refusal ≡ 0
+      → Causes (entry .n) (holdIn entry) (entry .mask) (entry .w) (bodyOf book entry) old old2 j new new2 → j .refusal ≡ 0
   capture-caused old old2 new new2 room room2 j causes =
       let long = rows-long (bodyOf book entry) in
       let small = capture-whole book none i h .1 in

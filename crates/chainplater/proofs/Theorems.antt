@@ -1,34 +1,35 @@
 -- The front door: what is proved of the door for C and Rust, each theorem in full with the line that cites its proof.
 use mathlib.Core.Path.{_≡_, refl}
 use mathlib.Core.Bool.{Bool, true}
-use mathlib.Core.List.{List, _∷_, _++_}
+use mathlib.Core.List.{List, [], _∷_, _++_}
 use Prim.Native.Nat.{ℕ, _≤_, _<_}
 use lib.ListN.{length, getD, replicate}
 use denote.Ref.{now}
 use Rattle.basics.specs.Bytes.{twoBytes, fourBytes}
-use Rattle.basics.specs.Settings.{sectionsFit}
+use Rattle.basics.specs.First.{_when_, firstOf}
+use Rattle.basics.specs.Settings.{sectionsFit, optionsFit, holdOf}
 use Rattle.basics.proofs.One.{OneAnswer, OneContent, one-value}
 use Rattle.pair.specs.declared.Value.{Value}
 use Rattle.pair.specs.Coder.{Decoding, Encoding, encoding}
-use Rattle.controller.specs.Settings.{fresh, making}
-use Rattle.controller.specs.Step.{step}
+use Rattle.controller.specs.Settings.{fresh, settingsFaults, making}
 use Rattle.controller.specs.declared.Controller.{Controller}
 use Rattle.controller.specs.declared.Outcome.{Outcome}
 use Rattle.explain.specs.Causes.{Causes}
-use Rattle.explain.specs.Verdict.{Judging}
+use Rattle.explain.specs.Verdict.{Judging, refusedBy}
 use Rattle.switches.specs.Extend.{extending}
 use Rattle.switches.specs.LastChange.{Looked}
-use Rattle.book.specs.Format.{contentsIn, bytesOf, bodyOf, noEntry}
+use Rattle.book.specs.Format.{contentsIn, bytesOf, holdIn, bodyOf, noEntry}
 use Rattle.book.specs.Reader.{reading}
 use Rattle.book.specs.Writer.{counted, writing, output}
 use Rattle.book.proofs.Laid.{length-listed}
 use Rattle.book.proofs.Trips.{contents-back, read-places}
 use Rattle.report.proofs.Tables.{printed-one}
 use Rattle.chainplater.specs.Coder.{valueBytes, flag, decodedBytes, encodedBytes, encodingBytes}
-use Rattle.chainplater.specs.Record.{recordIn, recordBytes, outcomeBytes}
+use Rattle.chainplater.specs.Record.{recordIn, recordBytes, freshFor, outcomeBytes, stepBytes}
 use Rattle.chainplater.specs.Switches.{lookedBytes}
-use Rattle.chainplater.specs.Verdict.{judgingBytes, fixedBy}
-use Rattle.chainplater.proofs.Bytes.{record-size, outcome-size, record-back, record-again, refused-bytes}
+use Rattle.chainplater.specs.Verdict.{judgingBytes, RightFor, fixedBy}
+use Rattle.chainplater.proofs.Bytes.{record-size, outcome-size, record-back, record-again, refused-step, fresh-for}
+use Rattle.chainplater.proofs.Bytes.{above-refused, above-step}
 use Rattle.chainplater.proofs.Bytes.{refused-write, flag-taken, flag-refused, same-refusal, same-bytes, judged-one}
 use Rattle.chainplater.proofs.Bytes.{causes-one, same-conditions, same-commands}
 use Rattle.chainplater.proofs.Captures.{capture-fresh, capture-caused, capture-listed}
@@ -124,7 +125,7 @@ table-right = table-met.met
 fresh-unique : OneAnswer 1 fresh-kinds.ps fresh-kinds.r fresh-fn.Post
 fresh-unique κs args x y s t p q = one-value (p .0) (q .0)
 
-record-unique : OneContent 1 fresh-kinds.ps fresh-kinds.r fresh-fn.Post (λ κs exit. now (exit .1 .1 .1 .0))
+record-unique : OneContent 1 fresh-kinds.ps fresh-kinds.r fresh-fn.Post (λ κs exit. now (exit .1 .1 .1 .1 .0))
 record-unique κs args x y s t p q = one-value (p .1) (q .1)
 
 value-unique : OneContent 1 k1-kinds.ps k1-kinds.r k1-fn.Post (λ κs exit. now (exit .1 .0))
@@ -151,26 +152,26 @@ stepped-unique κs args x y s t p q = one-value (p .1) (q .1)
 judge-unique : OneAnswer 2 judge-kinds.ps judge-kinds.r judge-fn.Post
 judge-unique κs args x y s t p q = same-refusal p q (judged-one _ _ _ _ _ p q)
 
-judged-unique : OneContent 2 judge-kinds.ps judge-kinds.r judge-fn.Post (λ κs exit. now (exit .1 .1 .1 .1 .0))
+judged-unique : OneContent 2 judge-kinds.ps judge-kinds.r judge-fn.Post (λ κs exit. now (exit .1 .1 .1 .1 .1 .0))
 judged-unique κs args x y s t p q = same-bytes p q (judged-one _ _ _ _ _ p q)
 
 causes-unique : OneAnswer 4 causes-kinds.ps causes-kinds.r causes-fn.Post
-causes-unique κs args x y s t p q = same-refusal p q (causes-one p q)
+causes-unique κs args x y s t p q = same-refusal p q (causes-one _ _ _ _ _ _ _ _ _ _ _ p q)
 
-verdict-unique : OneContent 4 causes-kinds.ps causes-kinds.r causes-fn.Post (λ κs exit. now (exit .1 .1 .1 .1 .1 .1 .0))
-verdict-unique κs args x y s t p q = same-bytes p q (causes-one p q)
+verdict-unique : OneContent 4 causes-kinds.ps causes-kinds.r causes-fn.Post (λ κs exit. now (exit .1 .1 .1 .1 .1 .1 .1 .0))
+verdict-unique κs args x y s t p q = same-bytes p q (causes-one _ _ _ _ _ _ _ _ _ _ _ p q)
 
 -- Of the tables of causes this holds but for the entries below the steps of an explained capture, where any causes will do
 -- under which the controller sends its rows.
 conditions-unique :
     OneContent 4 causes-kinds.ps causes-kinds.r causes-fn.Post
-    (λ κs exit. fixedBy (now (exit .1 .1 .1 .1 .1 .1 .0)) (now (exit .1 .1 .1 .1 .0)))
-conditions-unique κs args x y s t p q = same-conditions p q
+    (λ κs exit. fixedBy (now (exit .1 .1 .1 .1 .1 .1 .1 .0)) (now (exit .1 .1 .1 .1 .1 .0)))
+conditions-unique κs args x y s t p q = same-conditions _ _ _ _ _ _ _ _ _ _ _ p q
 
 commands-unique :
     OneContent 4 causes-kinds.ps causes-kinds.r causes-fn.Post
-    (λ κs exit. fixedBy (now (exit .1 .1 .1 .1 .1 .1 .0)) (now (exit .1 .1 .1 .1 .1 .0)))
-commands-unique κs args x y s t p q = same-commands p q
+    (λ κs exit. fixedBy (now (exit .1 .1 .1 .1 .1 .1 .1 .0)) (now (exit .1 .1 .1 .1 .1 .1 .0)))
+commands-unique κs args x y s t p q = same-commands _ _ _ _ _ _ _ _ _ _ _ p q
 
 switches-unique : OneAnswer 3 switches-kinds.ps switches-kinds.r switches-fn.Post
 switches-unique κs args x y s t p q = one-value (p .0) (q .0)
@@ -209,7 +210,7 @@ page-unique : OneContent 2 table-kinds.ps table-kinds.r table-fn.Post (λ κs ex
 page-unique κs args x y s t p q = printed-one p q .0
 
 -- The outputs have as many bytes as the functions are lent.
-record-long : (s : Controller) → length (recordBytes s) ≡ 10
+record-long : (s : Controller) → length (recordBytes s) ≡ 12
 record-long = record-size
 
 value-long : (v : Value) → length (valueBytes v) ≡ 4
@@ -221,7 +222,7 @@ decoded-long d = refl
 encoded-long : (e : Encoding) → length (encodedBytes e) ≡ 2
 encoded-long e = refl
 
-stepped-long : (o : Outcome) → length (outcomeBytes o) ≡ 17
+stepped-long : (o : Outcome) → length (outcomeBytes o) ≡ 19
 stepped-long = outcome-size
 
 judged-long : (j : Judging) → length (judgingBytes j) ≡ 3
@@ -239,20 +240,37 @@ contents-long book = length-listed (reading book .contents) (read-places book)
 size-long : (size : ℕ) → length (fourBytes size) ≡ 4
 size-long size = refl
 
--- A record that is handed out comes back as it was; and one that is handed in, whatever its bytes, is handed out byte for
--- byte. So a refused step hands back the bytes that it was given, behind its number and before zeros.
+-- A record that is handed out comes back as it was; and one that is handed in with options that there are, whatever its other
+-- bytes, is handed out byte for byte. A refused step hands back the bytes that it was given, whatever they are, behind its number
+-- and before zeros.
 record-right : (s : Controller) → recordIn (recordBytes s) ≡ s
 record-right = record-back
 
-record-complete : (bytes : List ℕ) → length bytes ≡ 10 → ((i : ℕ) → getD bytes i 0 < 256)
-    → recordBytes (recordIn bytes) ≡ bytes
+record-complete : (bytes : List ℕ) → length bytes ≡ 12 → ((i : ℕ) → getD bytes i 0 < 256)
+    → optionsFit (getD bytes 1 0) ≡ true → recordBytes (recordIn bytes) ≡ bytes
 record-complete = record-again
 
-step-refused : (bytes : List ℕ) → length bytes ≡ 10 → ((i : ℕ) → getD bytes i 0 < 256)
+step-refused : (bytes : List ℕ) → length bytes ≡ 12 → ((i : ℕ) → getD bytes i 0 < 256)
     → (k1 k2 : ℕ) (conditions : List ℕ) (command c : ℕ) →
-    let o = step (recordIn bytes) k1 k2 conditions command c in
-    (o .refusal ≡ 0 → ⊥) → outcomeBytes o ≡ o .refusal ∷ bytes ++ replicate 6 0
-step-refused = refused-bytes
+    let out = stepBytes bytes k1 k2 conditions command c in
+    (getD out 0 0 ≡ 0 → ⊥) → out ≡ getD out 0 0 ∷ bytes ++ replicate 6 0
+step-refused = refused-step
+
+-- The options, one byte: 1 is hold. With options that there are the door answers as the crates do behind it; above 1 it has
+-- refusal 25 before every other number, and a step refusal 3 behind 1 and 2.
+options-right : (n options mask w : ℕ) → optionsFit options ≡ true
+    → freshFor n options mask w ≡ making n (holdOf options) mask w
+options-right = fresh-for
+
+options-refused : (n options mask w : ℕ) (capture : List ℕ) (j : Judging) → 1 < options
+    → (freshFor n options mask w .refusal ≡ 25) × (RightFor n options mask w capture j → j ≡ refusedBy 25)
+options-refused = above-refused
+
+step-options : (bytes : List ℕ) (k1 k2 : ℕ) (conditions : List ℕ) (command c : ℕ) → 1 < getD bytes 1 0 →
+    let s = recordIn bytes in
+    let number = getD (stepBytes bytes k1 k2 conditions command c) 0 0 in
+    number ≡ firstOf (settingsFaults (s .n) (s .mask) ++ ((3 when true) ∷ []))
+step-options = above-step
 
 -- A refused write leaves the output as it was, and a size of zeros.
 write-refused : (contents bodies out : List ℕ) →
@@ -269,7 +287,7 @@ contents-right book = contents-back (reading book .contents) (read-places book)
 captures-fresh : (book : List ℕ) → reading book .refusal ≡ 0
     → (i : ℕ) → i < length (counted (reading book .contents)) →
     let e = getD (counted (reading book .contents)) i noEntry in
-    making (e .n) (e .mask) (e .w) ≡ record { refusal = 0; controller = fresh (e .n) (e .mask) (e .w) }
+    making (e .n) (holdIn e) (e .mask) (e .w) ≡ record { refusal = 0; controller = fresh (e .n) (holdIn e) (e .mask) (e .w) }
 captures-fresh = capture-fresh
 
 -- The judge that shows the causes refuses no such capture, with tables of 16,384 words. (Nor does the judge: `captures-judged` of
@@ -278,7 +296,7 @@ captures-caused : (book : List ℕ) → reading book .refusal ≡ 0
     → (i : ℕ) → i < length (counted (reading book .contents)) →
     let e = getD (counted (reading book .contents)) i noEntry in
     (old old2 new new2 : List ℕ) → 16384 ≤ length old → 16384 ≤ length old2 → (j : Judging)
-    → Causes (e .n) (e .mask) (e .w) (bodyOf book e) old old2 j new new2 → j .refusal ≡ 0
+    → Causes (e .n) (holdIn e) (e .mask) (e .w) (bodyOf book e) old old2 j new new2 → j .refusal ≡ 0
 captures-caused = capture-caused
 
 -- Nor is a list of its changes, made afresh in a table of 16,384 entries, refused.

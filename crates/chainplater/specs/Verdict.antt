@@ -6,8 +6,9 @@ use lib.Dec.{eqb}
 use lib.ListN.{getD, drop}
 use Rattle.basics.specs.Bytes.{twoBytes}
 use Rattle.basics.specs.Choice.{if_then_else_}
-use Rattle.explain.specs.Verdict.{Judging, Right}
-use Rattle.explain.specs.Causes.{Causes}
+use Rattle.basics.specs.Settings.{optionsFit, holdOf}
+use Rattle.explain.specs.Verdict.{Judging, refusedBy, Right}
+use Rattle.explain.specs.Causes.{Untouched, Causes}
 
 -- the verdict, then the number of steps or of the first step
 abbrev pub judgingBytes : Judging → List ℕ
@@ -20,14 +21,23 @@ pub record Told (Holds : Judging → Type 0) (refusal : ℕ) (out : List ℕ) : 
   pub number : refusal ≡ answer .refusal
   pub bytes : out ≡ judgingBytes answer
 
--- of the right answer
-abbrev pub Judged : ℕ → ℕ → ℕ → List ℕ → ℕ → List ℕ → Type 0
-Judged n mask w capture refusal out = Told (Right n mask w capture) refusal out
+-- the right answer by the options; above 1 there are none, which is refusal 25, before every other number
+unfoldable pub RightFor : ℕ → ℕ → ℕ → ℕ → List ℕ → Judging → Type 0
+RightFor n options mask w capture j =
+    if optionsFit options then Right n (holdOf options) mask w capture j else (j ≡ refusedBy 25)
 
--- and of the one that comes with the tables, of conditions and of commands, as they were and as they are then
-abbrev pub CausesTold : ℕ → ℕ → ℕ → List ℕ → List ℕ → List ℕ → ℕ → List ℕ → List ℕ → List ℕ → Type 0
-CausesTold n mask w capture old old2 refusal new new2 out =
-    Told (λ j. Causes n mask w capture old old2 j new new2) refusal out
+abbrev pub Judged : ℕ → ℕ → ℕ → ℕ → List ℕ → ℕ → List ℕ → Type 0
+Judged n options mask w capture refusal out = Told (RightFor n options mask w capture) refusal out
+
+-- and the one that comes with the tables, of conditions and of commands, as they were and as they are then
+unfoldable pub CausesFor : ℕ → ℕ → ℕ → ℕ → List ℕ → List ℕ → List ℕ → List ℕ → List ℕ → Judging → Type 0
+CausesFor n options mask w capture old old2 new new2 j =
+    if optionsFit options then Causes n (holdOf options) mask w capture old old2 j new new2
+    else ((j ≡ refusedBy 25) × Untouched old old2 new new2)
+
+abbrev pub CausesTold : ℕ → ℕ → ℕ → ℕ → List ℕ → List ℕ → List ℕ → ℕ → List ℕ → List ℕ → List ℕ → Type 0
+CausesTold n options mask w capture old old2 refusal new new2 out =
+    Told (CausesFor n options mask w capture old old2 new new2) refusal out
 
 -- the entries of a table that are never chosen, by the bytes of the answer: those from the steps on, if the capture is
 -- explained, else all

@@ -1,9 +1,11 @@
 // The door for C and Rust: numbers and bytes alone. `include/chainplater.h` says the same to a C programmer.
 mod record;
 
+use crate::record::options_refusal;
 use crate::record::outcome_bytes;
 use crate::record::record_bytes;
 use crate::record::record_in;
+use crate::record::refused_bytes;
 use basics::settings::sections_fit;
 use book::Writing;
 use controller::Controller;
@@ -20,11 +22,9 @@ ghost use Rattle.book.specs.Format.{contentsIn, bytesOf};
 ghost use Rattle.book.specs.Reader.{reading};
 ghost use Rattle.book.specs.Writer.{writing, output};
 ghost use Rattle.chainplater.specs.Coder.{valueBytes, flag, decodedBytes, encodedBytes, encodingBytes};
-ghost use Rattle.chainplater.specs.Record.{recordIn, recordBytes, outcomeBytes};
+ghost use Rattle.chainplater.specs.Record.{recordBytes, freshFor, stepBytes};
 ghost use Rattle.chainplater.specs.Switches.{lookedBytes};
 ghost use Rattle.chainplater.specs.Verdict.{judgingBytes, Judged, CausesTold};
-ghost use Rattle.controller.specs.Settings.{making};
-ghost use Rattle.controller.specs.Step.{step};
 ghost use Rattle.explain.specs.Verdict.{told};
 ghost use Rattle.pair.specs.Coder.{decoding};
 ghost use Rattle.pair.specs.Request.{requests};
@@ -32,21 +32,31 @@ ghost use Rattle.pair.specs.Table.{valueOf};
 ghost use Rattle.report.specs.Table.{Printed};
 ghost use Rattle.switches.specs.Extend.{extending, extended};
 ghost use Rattle.switches.specs.LastChange.{looking};
-ghost use lib.ListN.{length};
+ghost use lib.ListN.{length, getD};
 ghost use mathlib.Core.Path.{_≡_};
 
 #[no_mangle]
-pub extern "C" fn chainplater_fresh(n: u8, mask: u16, wait: u16, out: &mut [u8; 10]) -> u8
-    ensures { λ r. ⌜ r ≡ making n mask wait .refusal ⌝ }
-    ensures { λ _. ⌜ now (out .exit) ≡ recordBytes (making n mask wait .controller) ⌝ }
+pub extern "C" fn chainplater_fresh(
+    n: u8,
+    options: u8,
+    mask: u16,
+    wait: u16,
+    out: &mut [u8; 12],
+) -> u8
+    ensures { λ r. ⌜ r ≡ freshFor n options mask wait .refusal ⌝ }
+    ensures { λ _. ⌜ now (out .exit) ≡ recordBytes (freshFor n options mask wait .controller) ⌝ }
 {
-    match Controller::fresh(n, mask, wait) {
+    if 1 < options {
+        *out = [0u8; 12];
+        return 25;
+    }
+    match Controller::fresh(n, options == 1, mask, wait) {
         Made::Fresh(s) => {
             *out = record_bytes(s);
             0
         }
         Made::Refused(k) => {
-            *out = [0u8; 10];
+            *out = [0u8; 12];
             k
         }
     }
@@ -60,10 +70,10 @@ pub extern "C" fn chainplater_k1(k1: u8, out: &mut [u8; 4])
     *out = [v.rank, v.least, v.greatest, v.mark];
 }
 
-fn flag(remote: bool) -> u8
-    ensures { λ r. ⌜ r ≡ flag remote ⌝ }
+fn flag(set: bool) -> u8
+    ensures { λ r. ⌜ r ≡ flag set ⌝ }
 {
-    if remote { 1 } else { 0 }
+    if set { 1 } else { 0 }
 }
 
 #[no_mangle]
@@ -128,17 +138,22 @@ pub extern "C" fn chainplater_encode(
 
 #[no_mangle]
 pub extern "C" fn chainplater_step(
-    given: &[u8; 10],
+    given: &[u8; 12],
     k1: u8,
     k2: u8,
     conditions: &[u8],
     command: u8,
     channel: u8,
-    out: &mut [u8; 17],
+    out: &mut [u8; 19],
 ) -> u8
-    ensures { λ r. ⌜ r ≡ step (recordIn (now (given .entry))) k1 k2 (now (conditions .entry)) command channel .refusal ⌝ }
-    ensures { λ _. ⌜ now (out .exit) ≡ outcomeBytes (step (recordIn (now (given .entry))) k1 k2 (now (conditions .entry)) command channel) ⌝ }
+    ensures { λ r. ⌜ r ≡ getD (stepBytes (now (given .entry)) k1 k2 (now (conditions .entry)) command channel) 0 0 ⌝ }
+    ensures { λ _. ⌜ now (out .exit) ≡ stepBytes (now (given .entry)) k1 k2 (now (conditions .entry)) command channel ⌝ }
 {
+    if 1 < given[1] {
+        let refusal = options_refusal(given);
+        *out = refused_bytes(refusal, given);
+        return refusal;
+    }
     let o = record_in(given).step(k1, k2, conditions, command, channel);
     *out = outcome_bytes(o);
     o.refusal
@@ -167,14 +182,19 @@ fn refusal_of(verdict: Verdict) -> u8
 #[no_mangle]
 pub extern "C" fn chainplater_judge(
     n: u8,
+    options: u8,
     mask: u16,
     wait: u16,
     capture: &[u8],
     out: &mut [u8; 3],
 ) -> u8
-    ensures { λ r. ⌜ Judged n mask wait (now (capture .entry)) r (now (out .exit)) ⌝ }
+    ensures { λ r. ⌜ Judged n options mask wait (now (capture .entry)) r (now (out .exit)) ⌝ }
 {
-    let verdict = explain::judge(n, mask, wait, capture);
+    if 1 < options {
+        *out = [0, 0, 0];
+        return 25;
+    }
+    let verdict = explain::judge(n, options == 1, mask, wait, capture);
     *out = verdict_bytes(verdict);
     refusal_of(verdict)
 }
@@ -182,6 +202,7 @@ pub extern "C" fn chainplater_judge(
 #[no_mangle]
 pub extern "C" fn chainplater_causes(
     n: u8,
+    options: u8,
     mask: u16,
     wait: u16,
     capture: &[u8],
@@ -189,9 +210,13 @@ pub extern "C" fn chainplater_causes(
     commands: &mut [u16],
     out: &mut [u8; 3],
 ) -> u8
-    ensures { λ r. ⌜ CausesTold n mask wait (now (capture .entry)) (now (conditions .entry)) (now (commands .entry)) r (now (conditions .exit)) (now (commands .exit)) (now (out .exit)) ⌝ }
+    ensures { λ r. ⌜ CausesTold n options mask wait (now (capture .entry)) (now (conditions .entry)) (now (commands .entry)) r (now (conditions .exit)) (now (commands .exit)) (now (out .exit)) ⌝ }
 {
-    let verdict = explain::judge_causes(n, mask, wait, capture, conditions, commands);
+    if 1 < options {
+        *out = [0, 0, 0];
+        return 25;
+    }
+    let verdict = explain::judge_causes(n, options == 1, mask, wait, capture, conditions, commands);
     *out = verdict_bytes(verdict);
     refusal_of(verdict)
 }

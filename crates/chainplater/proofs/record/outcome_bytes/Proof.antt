@@ -37,6 +37,12 @@ array-read-t30 c = search needs
 array-read-t33 : tie.Need-array-read-t33
 array-read-t33 c = search needs
 
+array-read-t36 : tie.Need-array-read-t36
+array-read-t36 c = search needs
+
+array-read-t39 : tie.Need-array-read-t39
+array-read-t39 c = search needs
+
 returns : tie.Need-returns
 unfolding recordBytes outcomeBytes
 returns c = rw (c .record-bytes .ensures)
@@ -56,4 +62,6 @@ outcome-bytes-spec =
     array-read-t27
     array-read-t30
     array-read-t33
+    array-read-t36
+    array-read-t39
     returns)

@@ -1,31 +1,34 @@
 -- `record_bytes` meets its contract: it follows the layout.
-use mathlib.Core.Path.{refl}
 use Rattle.chainplater.specs.Record.{recordBytes}
 use borrow.Author.Needs.{needs}
 use Rattle.chainplater.proofs.record.record_bytes.Statement.{statement}
 use Rattle.chainplater.proofs.record.record_bytes.Tie as tie
 
-cast-t3 : tie.Need-cast-t3
-cast-t3 c = search needs
+flag-requires : tie.Need-flag-requires
+flag-requires c κs = search needs
 
-cast-t5 : tie.Need-cast-t5
-cast-t5 c = search needs
+cast-t4 : tie.Need-cast-t4
+cast-t4 c = search needs
 
-cast-t7 : tie.Need-cast-t7
-cast-t7 c = search needs
+cast-t6 : tie.Need-cast-t6
+cast-t6 c = search needs
 
-cast-t9 : tie.Need-cast-t9
-cast-t9 c = search needs
+cast-t8 : tie.Need-cast-t8
+cast-t8 c = search needs
 
-cast-t11 : tie.Need-cast-t11
-cast-t11 c = search needs
+cast-t10 : tie.Need-cast-t10
+cast-t10 c = search needs
 
-cast-t13 : tie.Need-cast-t13
-cast-t13 c = search needs
+cast-t12 : tie.Need-cast-t12
+cast-t12 c = search needs
+
+cast-t14 : tie.Need-cast-t14
+cast-t14 c = search needs
 
 returns : tie.Need-returns
 unfolding recordBytes
-returns c = refl
+returns c = rw (c .before .before .before .before .before .before .flag .ensures)
 
 pub record-bytes-spec : {M : Type 1} → statement M
-record-bytes-spec = tie.close (tie.spec cast-t3 cast-t5 cast-t7 cast-t9 cast-t11 cast-t13 returns)
+record-bytes-spec =
+    tie.close (tie.spec flag-requires cast-t4 cast-t6 cast-t8 cast-t10 cast-t12 cast-t14 returns)
