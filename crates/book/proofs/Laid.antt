@@ -1,12 +1,12 @@
 -- Entries in bytes: how many there are, that entries are read back as they were written, and that bytes are written again as
 -- they were read.
 use mathlib.Core.Path.{_≡_, refl, sym, ap, _∙_}
-use mathlib.Core.List.{List, [], _∷_, _++_, append-assoc, append-nil}
+use mathlib.Core.List.{List, [], _∷_, _++_, append-assoc}
 use Prim.Native.Nat.{ℕ, zero, suc, _+_, _*_, _-_, _≤_, _<_}
 use native.Mathlib.Nat.{suc-sub-suc, sub-zero, zero-sub, zero-add}
 use native.Mathlib.Omega.{arith}
 use lib.ListN.{length, getD, take, drop, replicate, length-append, length-drop, length-replicate, replicate-append-replicate}
-use lib.Seq.{sets, sets-eq, drop-at, take-add, take-all, getD-drop}
+use lib.Seq.{sets, sets-eq, drop-at, take-add, getD-drop}
 use Rattle.basics.specs.Bytes.{fourBytes}
 use Rattle.basics.proofs.Fields.{fields-back, fields-again}
 use Rattle.book.specs.Format.{layout, fields, named, entryIn, entryBytes, entriesIn, contentsBytes, bodyEnd, noEntry}

@@ -2,11 +2,11 @@
 -- one answer.
 use mathlib.Core.Path.{_≡_, refl, sym, ap, _∙_}
 use mathlib.Core.Bool.{Bool, true, false, and-false}
-use mathlib.Core.List.{List, [], _∷_, _++_}
+use mathlib.Core.List.{List, [], _∷_}
 use Prim.Native.Nat.{ℕ, zero, suc, _+_, _*_, _/_, _%_, _<_}
 use native.Mathlib.Omega.{arith}
 use lib.Dec.{eqb}
-use lib.ListN.{length, getD, drop, replicate, drop-of-length-le}
+use lib.ListN.{length, getD, take, drop, replicate, drop-of-length-le}
 use lib.Seq.{drop-cons, take-all}
 use borrow.Author.Tests.{leb-true, eqb-true, eqb-false, lt-ltb, lt-leb}
 use Rattle.basics.specs.Bytes.{fourBytes}
@@ -18,10 +18,10 @@ use Rattle.pair.specs.Coder.{encoding}
 use Rattle.basics.specs.First.{firstOf}
 use Rattle.controller.specs.Settings.{making}
 use Rattle.controller.specs.Refusals.{refusal}
-use Rattle.controller.specs.Step.{moved, step}
+use Rattle.controller.specs.Step.{refusedStep, moved, step}
 use Rattle.controller.specs.declared.Controller.{Controller}
 use Rattle.controller.specs.declared.Outcome.{Outcome}
-use Rattle.controller.proofs.Keeping.{step-refused}
+use Rattle.controller.proofs.Keeping.{step-refused, step-keeps}
 use Rattle.explain.specs.Verdict.{Judging, refusedBy, judgeFaults, Right}
 use Rattle.explain.specs.Causes.{Untouched, Causes, fixedIn}
 use Rattle.explain.proofs.Exact.{answer-one}
@@ -31,7 +31,7 @@ use Rattle.book.specs.declared.Contents.{Contents}
 use Rattle.book.proofs.Books.{refused-writing}
 use Rattle.chainplater.specs.Coder.{flag, encodingBytes}
 use Rattle.chainplater.specs.Record.{layout, fields, named, recordIn, recordBytes, freshFor, outcomeBytes}
-use Rattle.chainplater.specs.Record.{optionsFaults, refusedBytes, stepBytes}
+use Rattle.chainplater.specs.Record.{optionsFaults, refusedBytes, stepBytes, StepOf}
 use Rattle.chainplater.specs.Verdict.{judgingBytes, Told, RightFor, Judged, CausesFor, CausesTold, fixedBy}
 
 -- entries one by one, from place i on
@@ -43,6 +43,10 @@ pub listed-all : (k i : ℕ) (bytes : List ℕ) → i + k ≡ length bytes → d
 listed-all zero i bytes long = drop-of-length-le bytes {i = i} (omega arith)
 listed-all (suc k) i bytes long =
     drop-cons bytes i 0 (omega arith) ∙ ap (λ (rest : List ℕ). getD bytes i 0 ∷ rest) (listed-all k (suc i) bytes (omega arith))
+
+-- the first six of twelve
+pub first-six : (bytes : List ℕ) → length bytes ≡ 12 → take 6 bytes ≡ entriesFrom 6 0 bytes
+first-six bytes long = ap (take 6) (listed-all 12 0 bytes (sym long))
 
 pub record-size : (s : Controller) → length (recordBytes s) ≡ 12
 unfolding recordBytes
@@ -125,6 +129,66 @@ module _ (bytes : List ℕ) (long : length bytes ≡ 12) (small : (i : ℕ) → 
           (getD out 0 0 ≡ 0 → ⊥) → out ≡ refusedBytes (getD out 0 0) bytes
       go true e refused = rw e (refused-outcome e k1 k2 conditions command c (rw e at refused))
       go false e refused = rw e refl
+
+-- the bytes of an answer, from those that were given
+module _ (bytes : List ℕ) (o : Outcome) (of : StepOf bytes o) (small : (i : ℕ) → getD bytes i 0 < 256) where
+  pub refused-given : (o .refusal ≡ 0 → ⊥) → refusedBytes (o .refusal) bytes ≡ outcomeBytes o
+  unfolding outcomeBytes
+  refused-given some =
+      ap (refusedBytes (o .refusal)) (sym (record-again bytes (of .long) small (of .fits)))
+      ∙ ap outcomeBytes (sym (of .refused some))
+
+  pub settled : entriesFrom 6 0 bytes ≡ take 6 (recordBytes (o .controller))
+  unfolding recordBytes
+  settled =
+      sym (first-six bytes (of .long))
+      ∙ ap (take 6) (sym (record-again bytes (of .long) small (of .fits)))
+      ∙ (λ i.
+      sym (of .sections) i
+      ∷ flag (sym (of .setting) i)
+      ∷ sym (of .priorities) i / 256
+      ∷ sym (of .priorities) i % 256
+      ∷ sym (of .wait) i / 256
+      ∷ sym (of .wait) i % 256
+      ∷ [])
+
+-- the answer of a step of a record that was given, refused or not
+pub step-of : (bytes : List ℕ) → length bytes ≡ 12 → optionsFit (getD bytes 1 0) ≡ true → (k1 k2 : ℕ) (conditions : List ℕ) (command c : ℕ)
+    → StepOf bytes (step (recordIn bytes) k1 k2 conditions command c)
+unfolding step moved
+step-of bytes long fits k1 k2 conditions command c = go (eqb (refusal (recordIn bytes) conditions command c) 0) refl
+  where
+    s : Controller
+    s = recordIn bytes
+
+    o : Outcome
+    o = step s k1 k2 conditions command c
+
+    go : (t : Bool) → eqb (refusal s conditions command c) 0 ≡ t → StepOf bytes (step (recordIn bytes) k1 k2 conditions command c)
+    go true e =
+        let none : o .refusal ≡ 0 = rw e in
+        let kept = step-keeps s k1 k2 conditions command c none .0 in
+        record {
+          long = long;
+          fits = fits;
+          sections = kept .sections;
+          setting = kept .setting;
+          priorities = kept .priorities;
+          wait = kept .wait;
+          refused = λ some. absurd (some none);
+        }
+    go false e =
+        let back = step-refused s k1 k2 conditions command c (eqb-false (refusal s conditions command c) 0 e) in
+        let same = ap (λ (x : Outcome). x .controller) back in
+        record {
+          long = long;
+          fits = fits;
+          sections = ap (λ (x : Controller). x .n) same;
+          setting = ap (λ (x : Controller). x .hold) same;
+          priorities = ap (λ (x : Controller). x .mask) same;
+          wait = ap (λ (x : Controller). x .w) same;
+          refused = λ some. back ∙ ap (λ (k : ℕ). refusedStep k s) (sym (ap (λ (x : Outcome). x .refusal) back));
+        }
 
 -- by the options
 pub fresh-for : (n options mask w : ℕ) → optionsFit options ≡ true

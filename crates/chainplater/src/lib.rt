@@ -155,7 +155,7 @@ pub extern "C" fn chainplater_step(
         return refusal;
     }
     let o = record_in(given).step(k1, k2, conditions, command, channel);
-    *out = outcome_bytes(o);
+    *out = outcome_bytes(o, given);
     o.refusal
 }
 

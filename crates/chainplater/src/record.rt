@@ -5,7 +5,7 @@ use basics::two_at;
 use controller::Controller;
 use controller::Outcome;
 ghost use Rattle.basics.specs.First.{firstOf};
-ghost use Rattle.chainplater.specs.Record.{recordIn, recordBytes, outcomeBytes, optionsFaults, refusedBytes};
+ghost use Rattle.chainplater.specs.Record.{recordIn, recordBytes, outcomeBytes, optionsFaults, refusedBytes, StepOf};
 ghost use lib.ListN.{length};
 ghost use mathlib.Core.Path.{_≡_};
 
@@ -45,33 +45,6 @@ pub(crate) fn record_bytes(s: Controller) -> [u8; 12]
     ]
 }
 
-pub(crate) fn outcome_bytes(o: Outcome) -> [u8; 19]
-    ensures { λ r. ⌜ r ≡ outcomeBytes o ⌝ }
-{
-    let s = record_bytes(o.controller);
-    [
-        o.refusal,
-        s[0],
-        s[1],
-        s[2],
-        s[3],
-        s[4],
-        s[5],
-        s[6],
-        s[7],
-        s[8],
-        s[9],
-        s[10],
-        s[11],
-        o.k1,
-        o.k2,
-        o.bridge,
-        o.selector,
-        o.mark,
-        o.fate,
-    ]
-}
-
 // The refusal of a record whose options are above 1.
 pub(crate) fn options_refusal(bytes: &[u8; 12]) -> u8
     ensures { λ r. ⌜ r ≡ firstOf (optionsFaults (recordIn (now (bytes .entry)))) ⌝ }
@@ -108,5 +81,38 @@ pub(crate) fn refused_bytes(refusal: u8, given: &[u8]) -> [u8; 19]
         0,
         0,
         0,
+    ]
+}
+
+// The answer of a step. Settings, and a refused record, are taken from the bytes that were given, which spares keeping them
+// through the step.
+pub(crate) fn outcome_bytes(o: Outcome, given: &[u8]) -> [u8; 19]
+    requires { ⌜ StepOf (now given) o ⌝ }
+    ensures { λ r. ⌜ r ≡ outcomeBytes o ⌝ }
+{
+    if o.refusal != 0 {
+        return refused_bytes(o.refusal, given);
+    }
+    let s = o.controller;
+    [
+        0,
+        given[0],
+        given[1],
+        given[2],
+        given[3],
+        given[4],
+        given[5],
+        s.k1,
+        s.k2,
+        s.sent,
+        (s.left / 256) as u8,
+        (s.left % 256) as u8,
+        s.held,
+        o.k1,
+        o.k2,
+        o.bridge,
+        o.selector,
+        o.mark,
+        o.fate,
     ]
 }

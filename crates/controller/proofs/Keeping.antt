@@ -50,7 +50,7 @@ module _ (s : Controller) (far : Accepted) (sent : Request) (now : ℕ) (stands 
     (able : Sendable (s .n) (s .mask) now sent) (within : now ≤ s .w) (kind : OfKind isCommand stands)
     (standing : Sendable (s .n) (s .mask) now stands) where
   abbrev answer : Outcome
-  answer = answering s far sent now stands fate
+  answer = answering s far sent now (heldAfter (s .hold) stands) fate
 
   room : (sent .code ≤ 15) × (sent .channel ≤ 14)
   room = sendable-room (s .n) (s .mask) now sent fits able
@@ -171,7 +171,7 @@ module _ (s : Controller) (k1 k2 : ℕ) (conditions : List ℕ) (command c : ℕ
       let accepts = answer-acceptable s far sent now stands fated (well .fits) far-fits channel able within kind standing in
       let pair = answer-usable s far sent now stands fated (well .fits) far-fits channel able within kind standing in
       let line = answer-line s far sent now stands fated (well .fits) far-fits channel able within kind standing in
-      let answered = answering s far sent now stands fated in (
+      let answered = answering s far sent now (heldAfter (s .hold) stands) fated in (
         record { sections = refl; setting = refl; priorities = refl; wait = refl; accepts = accepts },
         record {
           pair-usable = parts-usable (s .n) (answered .k1) (answered .k2) pair;

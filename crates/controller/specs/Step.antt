@@ -32,9 +32,9 @@ protection conditions = getD conditions 0 0
 abbrev pub waitOf : Controller → Request → ℕ → ℕ
 waitOf s last command = waitNow (isClear command) (entersWait last) (isWait (last .code)) (s .w) (s .left)
 
--- what is answered once it is decided what is sent; `stands` is the command in force
-abbrev pub answering : Controller → Accepted → Request → ℕ → Request → ℕ → Outcome
-answering s far sent now stands fateOfCommand =
+-- what is answered once it is decided what is sent
+abbrev pub answering : Controller → Accepted → Request → ℕ → ℕ → ℕ → Outcome
+answering s far sent now held fateOfCommand =
     record {
       refusal = 0;
       controller =
@@ -47,7 +47,7 @@ answering s far sent now stands fateOfCommand =
             k2 = far .k2;
             sent = k1Of sent;
             left = leftAfter sent now;
-            held = heldAfter (s .hold) stands;
+            held = held;
           };
       k1 = k1Of sent;
       k2 = k2Of (bridge (far .request .channel) (sent .channel) (keepsBridge sent));
@@ -70,7 +70,7 @@ moved s k1 k2 conditions command c =
     let now = waitOf s last command in
     let near = localRequest (s .mask) last protect (drop 1 conditions) stands (waiting now last) in
     let sent = decided (far .request) near in
-    answering s far sent now stands (fate command replaced (counts (s .hold) sent new))
+    answering s far sent now (heldAfter (s .hold) stands) (fate command replaced (counts (s .hold) sent new))
 
 -- what it acts on: the conditions as handed in or, where an alarm is received, with section 0 failed, whatever it was said
 -- to be (02, c)

@@ -54,23 +54,14 @@ fn keeps_bridge(sent: Request) -> bool
     sent.code == NOTHING
 }
 
-// `stands` is the command in force.
-fn answering(
-    s: Controller,
-    far: Accepted,
-    sent: Request,
-    wait: u16,
-    stands: Request,
-    fate: u8,
-) -> Outcome
-    requires { ⌜ (sent .code ≤ 15) × (sent .channel ≤ 15) × (far .request .channel ≤ 15) × (stands .code ≤ 15) × (stands .channel ≤ 15) ⌝ }
-    ensures { λ r. ⌜ r ≡ answering s far sent wait stands fate ⌝ }
+fn answering(s: Controller, far: Accepted, sent: Request, wait: u16, held: u8, fate: u8) -> Outcome
+    requires { ⌜ (sent .code ≤ 15) × (sent .channel ≤ 15) × (far .request .channel ≤ 15) ⌝ }
+    ensures { λ r. ⌜ r ≡ answering s far sent wait held fate ⌝ }
 {
     let heard = far.request;
     let bridged = bridge(heard.channel, sent.channel, keeps_bridge(sent));
     let selected = selector(sent.channel, far.bridged);
     let left = left_after(sent, wait);
-    let held = held_after(s.hold, stands);
     let k1 = sent.code * 16 + sent.channel;
     let k2 = bridged * 16 + 0b1000;
     let controller = Controller {
@@ -117,11 +108,12 @@ pub(crate) fn moved(
     let new = given(command, c);
     let replaced = replaces_held(prior, new);
     let stands = in_force(replaced, prior, new);
+    let held = held_after(s.hold, stands);
     let now = wait_of(s, last, command);
     let wait = waiting(now, last);
     let near = local_request(s.mask, last, protect, conditions, stands, wait);
     let heard = far.request;
     let sent = decided(heard, near);
     let fate = fate(command, replaced, counts(s.hold, sent, new));
-    answering(s, far, sent, now, stands, fate)
+    answering(s, far, sent, now, held, fate)
 }

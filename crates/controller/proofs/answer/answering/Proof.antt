@@ -26,9 +26,6 @@ selector-requires c κs = search needs
 left-after-requires : tie.Need-left-after-requires
 left-after-requires c κs = search needs
 
-held-after-requires : tie.Need-held-after-requires
-held-after-requires c κs = search needs
-
 mul-k1 : tie.Need-mul-k1
 mul-k1 c = search needs
 
@@ -36,19 +33,18 @@ add-k1 : tie.Need-add-k1
 add-k1 c = search needs
 
 mul-k2 : tie.Need-mul-k2
-mul-k2 c = let room = bridge-room (c .before .before .before .before .before) in omega arith
+mul-k2 c = let room = bridge-room (c .before .before .before .before) in omega arith
 
 add-k2 : tie.Need-add-k2
-add-k2 c = let room = bridge-room (c .before .before .before .before .before) in omega arith
+add-k2 c = let room = bridge-room (c .before .before .before .before) in omega arith
 
 returns : tie.Need-returns
 returns c =
     rw (
-      c .before .before .held-after .ensures,
-      c .before .before .before .left-after .ensures,
-      c .before .before .before .before .selector .ensures,
-      c .before .before .before .before .before .bridge .ensures,
-      c .before .before .before .before .before .before .keeps-bridge .ensures,
+      c .before .before .left-after .ensures,
+      c .before .before .before .selector .ensures,
+      c .before .before .before .before .bridge .ensures,
+      c .before .before .before .before .before .keeps-bridge .ensures,
     )
 
 pub answering-spec : {M : Type 1} → statement M
@@ -59,7 +55,6 @@ answering-spec =
     bridge-requires
     selector-requires
     left-after-requires
-    held-after-requires
     mul-k1
     add-k1
     mul-k2

@@ -43,7 +43,7 @@ protects c =
 -- what is sent, as the rules have it, by the conditions of section 0 and of the working sections
 abbrev sentBy : tie.After-decided → ℕ → List ℕ → Request
 sentBy c protect working =
-    let a = c .before .before .before .before .before .before .before .before .before .before .before .before .before .before .before .before .args in
+    let a = c .before .before .before .before .before .before .before .before .before .before .before .before .before .before .before .before .before .args in
     let last = asked (a .s .sent) in
     let prior = kept (a .command) (heldBy (a .s .hold) (a .s .held) last) in
     let new = given (a .command) (a .c) in
@@ -53,7 +53,7 @@ sentBy c protect working =
 
 abbrev sentOf : tie.After-decided → Request
 sentOf c =
-    let acts = actsOf (c .before .before .before .before .before .before .before .before .before .before .before .before .before .before .before .before) in
+    let acts = actsOf (c .before .before .before .before .before .before .before .before .before .before .before .before .before .before .before .before .before) in
     sentBy c (protection acts) (drop 1 acts)
 
 -- the held command, after a clear
@@ -94,7 +94,7 @@ stands-is c =
 sent-is : (c : tie.After-decided) → c .decided .result ≡ sentOf c
 sent-is c =
     let near = c .before .before in
-    let stood = near .before .before .before in
+    let stood = near .before .before .before .before in
     let seen = stood .before .before .before .before .before .before .before in
     let a = seen .before .before .before .before .args in
     let by-parts : c .decided .result ≡ sentBy c (seen .protection .result) (drop 1 (a .conditions .now)) =
@@ -143,6 +143,16 @@ replaces-held-requires c κs = search needs
 in-force-requires : tie.Need-in-force-requires
 in-force-requires c κs = search needs
 
+held-after-requires : tie.Need-held-after-requires
+held-after-requires c κs =
+    let start = c .before .before .before .before .before .before .before .before .before .before .before in
+    let a = start .args in
+    let able = stands-sendable (a .s) (actsOf start) (a .command) (a .c) (acts-well start) in
+    let now = waitOf (a .s) (asked (a .s .sent)) (a .command) in
+    let room =
+    sendable-room (a .s .n) (a .s .mask) now (inForce (replacesHeld (priorOf c) (newOf c)) (priorOf c) (newOf c)) (well start .fits) able in
+    rw (stands-is c) (room .0, omega arith)
+
 wait-of-requires : tie.Need-wait-of-requires
 wait-of-requires c κs = search needs
 
@@ -151,11 +161,11 @@ waiting-requires c κs = search needs
 
 local-request-requires : tie.Need-local-request-requires
 local-request-requires c κs =
-    let start = c .before .before .before .before .before .before .before .before .before .before .before .before .before in
+    let start = c .before .before .before .before .before .before .before .before .before .before .before .before .before .before in
     let a = start .args in
     let number = well start .number in
     let bounds = fit-bounds (a .s .n) (well start .fits) in
-    let stood = c .before .before in (
+    let stood = c .before .before .before in (
       omega arith,
       omega arith,
       rw (stands-is stood)
@@ -175,27 +185,21 @@ fate-requires c κs = search needs
 
 answering-requires : tie.Need-answering-requires
 answering-requires c κs =
-    let start = c .before .before .before .before .before .before .before .before .before .before .before .before .before .before .before .before .before .before in
+    let start = c .before .before .before .before .before .before .before .before .before .before .before .before .before .before .before .before .before .before .before in
     let a = start .args in
     let acts = actsOf start in
     let failed = eqb (protection acts) 2 in
     let able = sent-sendable (a .s) acts (a .command) (a .c) (acts-well start) failed (a .k1) (a .k2) in
     let now = waitOf (a .s) (asked (a .s .sent)) (a .command) in
     let room = sendable-room (a .s .n) (a .s .mask) now (sentOf (c .before .before)) (well start .fits) able in
-    let stood = c .before .before .before .before .before .before .before in
-    let standing = stands-sendable (a .s) acts (a .command) (a .c) (acts-well start) in
-    let place =
-    sendable-room (a .s .n) (a .s .mask) now (inForce (replacesHeld (priorOf stood) (newOf stood)) (priorOf stood) (newOf stood))
-    (well start .fits) standing in
     let far = far-channel (a .s) acts (a .command) (a .c) (acts-well start) failed (a .k1) (a .k2) in
     let bounds = fit-bounds (a .s .n) (well start .fits) in
     rw (
       sent-is (c .before .before),
-      stands-is stood,
-      c .before .before .before .before .before .before .before .before .before .before .before .before .accepting .ensures,
-      protects (c .before .before .before .before .before .before .before .before .before .before .before .before .before .before),
+      c .before .before .before .before .before .before .before .before .before .before .before .before .before .accepting .ensures,
+      protects (c .before .before .before .before .before .before .before .before .before .before .before .before .before .before .before),
     )
-    (room .0, omega arith, omega arith, place .0, omega arith)
+    (room .0, omega arith, omega arith)
 
 returns : tie.Need-returns
 unfolding moved
@@ -206,13 +210,14 @@ returns c =
       c .before .fate .ensures,
       c .before .before .counts .ensures,
       sent-is (c .before .before .before),
-      weighed (waited .before),
-      stands-is (waited .before),
+      waited .before .held-after .ensures,
+      weighed (waited .before .before),
+      stands-is (waited .before .before),
       waited .wait-of .ensures,
-      c .before .before .before .before .before .before .before .before .before .before .given .ensures,
-      c .before .before .before .before .before .before .before .before .before .before .before .before .before .accepting .ensures,
-      c .before .before .before .before .before .before .before .before .before .before .before .before .before .before .asked .ensures,
-      protects (c .before .before .before .before .before .before .before .before .before .before .before .before .before .before .before),
+      c .before .before .before .before .before .before .before .before .before .before .before .given .ensures,
+      c .before .before .before .before .before .before .before .before .before .before .before .before .before .before .accepting .ensures,
+      c .before .before .before .before .before .before .before .before .before .before .before .before .before .before .before .asked .ensures,
+      protects (c .before .before .before .before .before .before .before .before .before .before .before .before .before .before .before .before),
     )
 
 pub moved-spec : {M : Type 1} → statement M
@@ -229,6 +234,7 @@ moved-spec =
     given-requires
     replaces-held-requires
     in-force-requires
+    held-after-requires
     wait-of-requires
     waiting-requires
     local-request-requires
