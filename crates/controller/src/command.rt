@@ -1,15 +1,14 @@
 // The held command and a new one (01, 'One step', rules 2 and 5; 02, g).
 use crate::Controller;
 use crate::asked::asked;
-use crate::asked::rank_of;
 use crate::codes::FORCED_SWITCH;
 use crate::codes::LOCKOUT;
 use crate::codes::MANUAL_SWITCH;
 use crate::codes::NO_REQUEST;
 use request::Request;
-use request::replaces;
 ghost use Prim.Native.Nat.{_≤_};
-ghost use Rattle.controller.specs.Rules.{isCommand, held, heldBy, kept, given, replacesHeld, inForce, heldAfter, counts};
+ghost use Rattle.basics.specs.Choice.{if_then_else_};
+ghost use Rattle.controller.specs.Rules.{isCommand, held, heldBy, kept, given, inForce, heldAfter, counts};
 ghost use mathlib.Core.Path.{_≡_};
 
 pub(crate) fn is_command(code: u8) -> bool
@@ -64,14 +63,15 @@ pub(crate) fn given(command: u8, c: u8) -> Request
     NO_REQUEST
 }
 
-pub(crate) fn replaces_held(prior: Request, new: Request) -> bool
-    ensures { λ r. ⌜ r ≡ replacesHeld prior new ⌝ }
-{
-    replaces(rank_of(prior), rank_of(new))
-}
-
 pub(crate) fn in_force(replaced: bool, prior: Request, new: Request) -> Request
     ensures { λ r. ⌜ r ≡ inForce replaced prior new ⌝ }
+{
+    if replaced { new } else { prior }
+}
+
+// Its rank, of the ranks of the two.
+pub(crate) fn rank_in_force(replaced: bool, prior: u8, new: u8) -> u8
+    ensures { λ r. ⌜ r ≡ (if replaced then new else prior) ⌝ }
 {
     if replaced { new } else { prior }
 }

@@ -9,7 +9,7 @@ use request::better;
 use request::turn;
 ghost use Prim.Native.Nat.{_+_, _≤_, _<_};
 ghost use Rattle.controller.specs.Asking.{OfKind, asks, sectionAt, Laid, Ranked};
-ghost use Rattle.controller.specs.Rules.{isCommand, isWait, localRequest, decided};
+ghost use Rattle.controller.specs.Rules.{rankOfRequest, isCommand, isWait, localRequest, decided};
 ghost use Rattle.pair.specs.Request.{rankOf};
 ghost use Rattle.request.specs.Order.{turn, byRank};
 ghost use lib.ListN.{length, drop, replicate};
@@ -86,7 +86,7 @@ fn section_at(last: Request, at: usize) -> u8
 
 // The higher rank, then the turn (01, rule 3; 02, d): section 0, the section whose request was last sent, the others from
 // 1 up. So the first hit is the answer. Command and wait may come before the sections: no two of the three kinds share a
-// rank, since each rank above 0 is one code's alone.
+// rank, since each rank above 0 is one code's alone. `known` is the rank of the command.
 pub(crate) fn local_request(
     mask: u16,
     last: Request,
@@ -94,18 +94,18 @@ pub(crate) fn local_request(
     conditions: &[u8],
     command: Request,
     wait: Request,
+    known: u8,
 ) -> Request
-    requires { ⌜ (1 ≤ length (now conditions)) × (length (now conditions) ≤ 15) × OfKind isCommand command × OfKind isWait wait ⌝ }
+    requires { ⌜ (1 ≤ length (now conditions)) × (length (now conditions) ≤ 15) × OfKind isCommand command × OfKind isWait wait × (known ≡ rankOfRequest command) ⌝ }
     ensures { λ r. ⌜ r ≡ localRequest mask last protection (drop 1 (now (conditions .entry))) command wait ⌝ }
 {
     let mut ranks = [0u8; 16];
     let past_last = section_ranks(mask, protection, conditions, last, &mut ranks);
-    let command_rank = rank_of(command);
     let wait_rank = rank_of(wait);
     let mut found = NO_REQUEST;
     let mut rank: u8 = 10;
     'ranks: while 0 < rank {
-        if command_rank == rank {
+        if known == rank {
             found = command;
             break;
         }

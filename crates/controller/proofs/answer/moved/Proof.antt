@@ -1,16 +1,18 @@
 -- `moved` meets its contract: each rule's function is handed what the rules before it gave.
-use mathlib.Core.Path.{_≡_, sym, ap, _∙_}
+use mathlib.Core.Path.{_≡_, refl, sym, ap, _∙_}
+use mathlib.Core.Bool.{Bool, true, false}
 use mathlib.Core.List.{List}
 use Prim.Native.Nat.{ℕ}
 use native.Mathlib.Omega.{arith}
 use lib.Dec.{eqb}
 use lib.ListN.{drop}
+use Rattle.basics.specs.Choice.{if_then_else_}
 use Rattle.basics.proofs.Fitting.{fit-bounds}
 use Rattle.pair.specs.Marks.{alarm}
 use Rattle.pair.proofs.Coding.{alarm-test}
 use Rattle.request.specs.declared.Request.{Request}
 use Rattle.controller.specs.Rules.{asked, accepting, heldBy, kept, given, replacesHeld, inForce, waiting, localRequest}
-use Rattle.controller.specs.Rules.{decided}
+use Rattle.controller.specs.Rules.{rankOfRequest, decided}
 use Rattle.controller.specs.Step.{protection, waitOf, moved, actsOn}
 use Rattle.controller.proofs.Apart.{wait-kind}
 use Rattle.controller.proofs.Inputs.{WellFormed, well-formed}
@@ -43,7 +45,7 @@ protects c =
 -- what is sent, as the rules have it, by the conditions of section 0 and of the working sections
 abbrev sentBy : tie.After-decided → ℕ → List ℕ → Request
 sentBy c protect working =
-    let a = c .before .before .before .before .before .before .before .before .before .before .before .before .before .before .before .before .before .args in
+    let a = c .before .before .before .before .before .before .before .before .before .before .before .before .before .before .before .before .before .before .before .before .args in
     let last = asked (a .s .sent) in
     let prior = kept (a .command) (heldBy (a .s .hold) (a .s .held) last) in
     let new = given (a .command) (a .c) in
@@ -53,49 +55,74 @@ sentBy c protect working =
 
 abbrev sentOf : tie.After-decided → Request
 sentOf c =
-    let acts = actsOf (c .before .before .before .before .before .before .before .before .before .before .before .before .before .before .before .before .before) in
+    let acts = actsOf (c .before .before .before .before .before .before .before .before .before .before .before .before .before .before .before .before .before .before .before .before) in
     sentBy c (protection acts) (drop 1 acts)
 
 -- the held command, after a clear
-abbrev priorOf : tie.After-in-force → Request
+abbrev priorOf : tie.After-given → Request
 priorOf c =
-    let a = c .before .before .before .before .before .before .before .before .before .before .before .args in
+    let a = c .before .before .before .before .before .before .before .before .before .args in
     kept (a .command) (heldBy (a .s .hold) (a .s .held) (asked (a .s .sent)))
 
-abbrev newOf : tie.After-in-force → Request
-newOf c =
-    let a = c .before .before .before .before .before .before .before .before .before .before .before .args in
-    given (a .command) (a .c)
+prior-is : (c : tie.After-given) → c .before .kept .result ≡ priorOf c
+prior-is c =
+    rw (
+      c .before .kept .ensures,
+      c .before .before .held-by .ensures,
+      c .before .before .before .before .asked .ensures,
+    )
+
+abbrev newOf : tie.After-given → Request
+newOf c = let a = c .before .before .before .before .before .before .before .before .before .args in given (a .command) (a .c)
 
 -- whether the new command has replaced it
-weighed : (c : tie.After-in-force) → c .before .replaces-held .result ≡ replacesHeld (priorOf c) (newOf c)
+weighed : (c : tie.After-in-force) →
+    let told = c .before .before .before .before in
+    c .before .replaces .result ≡ replacesHeld (priorOf told) (newOf told)
 weighed c =
+    let told = c .before .before .before .before in
     rw (
-      c .before .replaces-held .ensures,
-      c .before .before .given .ensures,
-      c .before .before .before .kept .ensures,
-      c .before .before .before .before .held-by .ensures,
-      c .before .before .before .before .before .before .asked .ensures,
+      c .before .replaces .ensures,
+      c .before .before .rank-of2 .ensures,
+      c .before .before .before .rank-of .ensures,
+      told .given .ensures,
+      prior-is told,
     )
 
 -- the command in force
-stands-is : (c : tie.After-in-force)
-    → c .in-force .result ≡ inForce (replacesHeld (priorOf c) (newOf c)) (priorOf c) (newOf c)
+abbrev standsOf : tie.After-given → Request
+standsOf c = inForce (replacesHeld (priorOf c) (newOf c)) (priorOf c) (newOf c)
+
+stands-is : (c : tie.After-in-force) → c .in-force .result ≡ standsOf (c .before .before .before .before)
 stands-is c =
+    let told = c .before .before .before .before in
+    rw (c .in-force .ensures, weighed c, told .given .ensures, prior-is told)
+
+-- its rank is known by then
+stands-ranked : (c : tie.After-rank-in-force)
+    → c .rank-in-force .result ≡ rankOfRequest (c .before .in-force .result)
+stands-ranked c =
     rw (
-      c .in-force .ensures,
-      weighed c,
-      c .before .before .given .ensures,
-      c .before .before .before .kept .ensures,
-      c .before .before .before .before .held-by .ensures,
-      c .before .before .before .before .before .before .asked .ensures,
+      c .rank-in-force .ensures,
+      c .before .in-force .ensures,
+      c .before .before .before .rank-of2 .ensures,
+      c .before .before .before .before .rank-of .ensures,
     )
+    (chosen (c .before .before .replaces .result))
+  where
+    chosen : (t : Bool) →
+        let told = c .before .before .before .before .before in
+        let new = told .given .result in
+        let prior = c .before .before .before .before .before .before .kept .result in
+        (if t then rankOfRequest new else rankOfRequest prior) ≡ rankOfRequest (inForce t prior new)
+    chosen true = refl
+    chosen false = refl
 
 sent-is : (c : tie.After-decided) → c .decided .result ≡ sentOf c
 sent-is c =
     let near = c .before .before in
-    let stood = near .before .before .before .before in
-    let seen = stood .before .before .before .before .before .before .before in
+    let stood = near .before .before .before .before .before in
+    let seen = stood .before .before .before .before .before .before .before .before .before in
     let a = seen .before .before .before .before .args in
     let by-parts : c .decided .result ≡ sentBy c (seen .protection .result) (drop 1 (a .conditions .now)) =
     rw (
@@ -104,8 +131,8 @@ sent-is c =
       near .before .waiting .ensures,
       near .before .before .wait-of .ensures,
       stands-is stood,
-      stood .before .before .before .before .before .accepting .ensures,
-      stood .before .before .before .before .before .before .asked .ensures,
+      stood .before .before .before .before .before .before .before .accepting .ensures,
+      stood .before .before .before .before .before .before .before .before .asked .ensures,
     ) in
     by-parts
     ∙ ap (λ (p : ℕ). sentBy c p (drop 1 (a .conditions .now))) (protects seen)
@@ -137,21 +164,31 @@ kept-requires c κs = search needs
 given-requires : tie.Need-given-requires
 given-requires c κs = search needs
 
-replaces-held-requires : tie.Need-replaces-held-requires
-replaces-held-requires c κs = search needs
+rank-of-requires : tie.Need-rank-of-requires
+rank-of-requires c κs = search needs
+
+rank-of-requires-2 : tie.Need-rank-of-requires-2
+rank-of-requires-2 c κs = search needs
+
+replaces-requires : tie.Need-replaces-requires
+replaces-requires c κs = search needs
 
 in-force-requires : tie.Need-in-force-requires
 in-force-requires c κs = search needs
 
+rank-in-force-requires : tie.Need-rank-in-force-requires
+rank-in-force-requires c κs = search needs
+
 held-after-requires : tie.Need-held-after-requires
 held-after-requires c κs =
-    let start = c .before .before .before .before .before .before .before .before .before .before .before in
+    let stood = c .before in
+    let start = c .before .before .before .before .before .before .before .before .before .before .before .before .before .before in
     let a = start .args in
     let able = stands-sendable (a .s) (actsOf start) (a .command) (a .c) (acts-well start) in
     let now = waitOf (a .s) (asked (a .s .sent)) (a .command) in
     let room =
-    sendable-room (a .s .n) (a .s .mask) now (inForce (replacesHeld (priorOf c) (newOf c)) (priorOf c) (newOf c)) (well start .fits) able in
-    rw (stands-is c) (room .0, omega arith)
+    sendable-room (a .s .n) (a .s .mask) now (standsOf (stood .before .before .before .before)) (well start .fits) able in
+    rw (stands-is stood) (room .0, omega arith)
 
 wait-of-requires : tie.Need-wait-of-requires
 wait-of-requires c κs = search needs
@@ -161,17 +198,18 @@ waiting-requires c κs = search needs
 
 local-request-requires : tie.Need-local-request-requires
 local-request-requires c κs =
-    let start = c .before .before .before .before .before .before .before .before .before .before .before .before .before .before in
+    let start = c .before .before .before .before .before .before .before .before .before .before .before .before .before .before .before .before .before in
     let a = start .args in
     let number = well start .number in
     let bounds = fit-bounds (a .s .n) (well start .fits) in
-    let stood = c .before .before .before in (
+    let stood = c .before .before .before .before in (
       omega arith,
       omega arith,
       rw (stands-is stood)
           (stands-kind (a .s) (actsOf start) (a .command) (a .c) (acts-well start)),
       rw (c .waiting .ensures)
-          (wait-kind (c .before .wait-of .result) (stood .before .before .before .before .before .before .asked .result)),
+          (wait-kind (c .before .wait-of .result) (c .before .before .before .before .before .before .before .before .before .before .before .before .asked .result)),
+      stands-ranked (c .before .before .before),
     )
 
 decided-requires : tie.Need-decided-requires
@@ -185,7 +223,7 @@ fate-requires c κs = search needs
 
 answering-requires : tie.Need-answering-requires
 answering-requires c κs =
-    let start = c .before .before .before .before .before .before .before .before .before .before .before .before .before .before .before .before .before .before .before in
+    let start = c .before .before .before .before .before .before .before .before .before .before .before .before .before .before .before .before .before .before .before .before .before .before in
     let a = start .args in
     let acts = actsOf start in
     let failed = eqb (protection acts) 2 in
@@ -196,28 +234,28 @@ answering-requires c κs =
     let bounds = fit-bounds (a .s .n) (well start .fits) in
     rw (
       sent-is (c .before .before),
-      c .before .before .before .before .before .before .before .before .before .before .before .before .before .accepting .ensures,
-      protects (c .before .before .before .before .before .before .before .before .before .before .before .before .before .before .before),
+      c .before .before .before .before .before .before .before .before .before .before .before .before .before .before .before .before .accepting .ensures,
+      protects (c .before .before .before .before .before .before .before .before .before .before .before .before .before .before .before .before .before .before),
     )
     (room .0, omega arith, omega arith)
 
 returns : tie.Need-returns
 unfolding moved
 returns c =
-    let waited = c .before .before .before .before .before .before .before in
+    let stood = c .before .before .before .before .before .before .before .before .before .before in
     rw (
       c .answering .ensures,
       c .before .fate .ensures,
       c .before .before .counts .ensures,
       sent-is (c .before .before .before),
-      waited .before .held-after .ensures,
-      weighed (waited .before .before),
-      stands-is (waited .before .before),
-      waited .wait-of .ensures,
-      c .before .before .before .before .before .before .before .before .before .before .before .given .ensures,
-      c .before .before .before .before .before .before .before .before .before .before .before .before .before .before .accepting .ensures,
-      c .before .before .before .before .before .before .before .before .before .before .before .before .before .before .before .asked .ensures,
-      protects (c .before .before .before .before .before .before .before .before .before .before .before .before .before .before .before .before),
+      c .before .before .before .before .before .before .before .before .held-after .ensures,
+      weighed stood,
+      stands-is stood,
+      c .before .before .before .before .before .before .before .wait-of .ensures,
+      c .before .before .before .before .before .before .before .before .before .before .before .before .before .before .given .ensures,
+      c .before .before .before .before .before .before .before .before .before .before .before .before .before .before .before .before .before .accepting .ensures,
+      c .before .before .before .before .before .before .before .before .before .before .before .before .before .before .before .before .before .before .asked .ensures,
+      protects (c .before .before .before .before .before .before .before .before .before .before .before .before .before .before .before .before .before .before .before),
     )
 
 pub moved-spec : {M : Type 1} → statement M
@@ -232,8 +270,11 @@ moved-spec =
     held-by-requires
     kept-requires
     given-requires
-    replaces-held-requires
+    rank-of-requires
+    rank-of-requires-2
+    replaces-requires
     in-force-requires
+    rank-in-force-requires
     held-after-requires
     wait-of-requires
     waiting-requires

@@ -29,20 +29,20 @@ nestOf mask last protection conditions command wait ranks past-last command-rank
     }
 
 abbrev Inv-ranks : tie.InvT-ranks
-Inv-ranks mask last protection conditions command wait ranks past-last command-rank wait-rank found₀ rank₀ found rank =
+Inv-ranks mask last protection conditions command wait command-rank ranks past-last wait-rank found₀ rank₀ found rank =
     let nest = nestOf mask last protection conditions command wait ranks past-last command-rank wait-rank in
     Worked nest × Asked nest rank × (found ≡ noRequest)
 
 abbrev μ-ranks : tie.MeasureT-ranks
-μ-ranks mask last protection conditions command wait ranks past-last command-rank wait-rank found₀ rank₀ found rank = rank
+μ-ranks mask last protection conditions command wait command-rank ranks past-last wait-rank found₀ rank₀ found rank = rank
 
 abbrev Inv-loop : tie.InvT-loop
-Inv-loop mask last protection conditions command wait ranks past-last command-rank wait-rank found₀ rank at₀ found at =
+Inv-loop mask last protection conditions command wait command-rank ranks past-last wait-rank found₀ rank at₀ found at =
     Passed (nestOf mask last protection conditions command wait ranks past-last command-rank wait-rank) rank (λ (t : ℕ). t < at)
     × (found ≡ found₀)
 
 abbrev μ-loop : tie.MeasureT-loop
-μ-loop mask last protection conditions command wait ranks past-last command-rank wait-rank found₀ rank at₀ found at = past-last - at
+μ-loop mask last protection conditions command wait command-rank ranks past-last wait-rank found₀ rank at₀ found at = past-last - at
 
 slice-aggregate-section-ranks : tie.Need-slice-aggregate-section-ranks Inv-loop μ-loop Inv-ranks μ-ranks
 slice-aggregate-section-ranks c = search needs
@@ -53,17 +53,14 @@ section-ranks-requires c κs = let pre = c .before .before .pre in (pre .0, pre 
 rank-of-requires : tie.Need-rank-of-requires Inv-loop μ-loop Inv-ranks μ-ranks
 rank-of-requires c κs = search needs
 
-rank-of-requires-2 : tie.Need-rank-of-requires-2 Inv-loop μ-loop Inv-ranks μ-ranks
-rank-of-requires-2 c κs = search needs
-
 ranks-holds : tie.Need-ranks-holds Inv-loop μ-loop Inv-ranks μ-ranks
 ranks-holds c =
-    let start = c .before .before .before .before .before .before in
+    let start = c .before .before .before .before .before in
     let long = as-long (start .args .protection) (start .args .conditions .now) (start .pre .0) in (
       record {
-        ranked = rw long (c .before .before .before .section-ranks .ensures);
-        command-is = c .before .rank-of .ensures;
-        wait-is = c .rank-of2 .ensures;
+        ranked = rw long (c .before .before .section-ranks .ensures);
+        command-is = start .pre .4;
+        wait-is = c .rank-of .ensures;
       },
       first-asked _ _ (search needs),
       refl,
@@ -74,7 +71,7 @@ loop-holds c = (none-passed _ _ _ (λ t h. omega arith) (c .before .if1 .left) (
 
 array-read-if3 : tie.Need-array-read-if3 Inv-loop μ-loop Inv-ranks μ-ranks
 array-read-if3 c =
-    let start = c .before .before .before .before .before .before .before .before .before .before .before .before in
+    let start = c .before .before .before .before .before .before .before .before .before .before .before in
     let long = as-long (start .args .protection) (start .args .conditions .now) (start .pre .0) in
     let room = start .pre .1 in
     let inside = c .before .before .before .before .before .ranks .inv .0 .ranked .within in
@@ -86,7 +83,7 @@ section-at-requires c κs = let room = array-read-if3 (c .before) in omega arith
 
 section-asks-requires : tie.Need-section-asks-requires Inv-loop μ-loop Inv-ranks μ-ranks
 section-asks-requires c κs =
-    let start = c .before .before .before .before .before .before .before .before .before .before .before .before .before .before in
+    let start = c .before .before .before .before .before .before .before .before .before .before .before .before .before in
     let long = as-long (start .args .protection) (start .args .conditions .now) (start .pre .0) in
     let outer = c .before .before .before .before .before .before in
     let at = outer .before .ranks in
@@ -131,13 +128,13 @@ returns c =
 
 returns-2 : tie.Need-returns-2 Inv-loop μ-loop Inv-ranks μ-ranks
 returns-2 c =
-    let pre = c .before .before .before .before .before .before .before .before .before .pre in
+    let pre = c .before .before .before .before .before .before .before .before .pre in
     let at = c .before .before .ranks in
     sym (command-hit _ _ (c .before .ranks-test .taken) (at .inv .0) (at .inv .1) (pre .2) (pre .3) (c .if1 .taken))
 
 returns-3 : tie.Need-returns-3 Inv-loop μ-loop Inv-ranks μ-ranks
 returns-3 c =
-    let pre = c .before .before .before .before .before .before .before .before .before .before .pre in
+    let pre = c .before .before .before .before .before .before .before .before .before .pre in
     let at = c .before .before .before .ranks in
     let some = c .before .before .ranks-test .taken in
     sym (wait-hit _ _ some (at .inv .0) (at .inv .1) (pre .3) (c .before .if1 .left) (c .if2 .taken))
@@ -162,7 +159,6 @@ local-request-spec =
     slice-aggregate-section-ranks
     section-ranks-requires
     rank-of-requires
-    rank-of-requires-2
     ranks-holds
     loop-holds
     array-read-if3
