@@ -1,11 +1,11 @@
-//! The capture book (paper: "Capture book"), with the refusals that its reader
-//! and its writer can meet (paper: "Numbered refusals", 20 to 30, and 02, f, for 31
-//! and 32).
+//! The capture book (paper: "Capture book"; 02, g, for the spare byte), with the
+//! refusals that its reader and its writer can meet (paper: "Numbered refusals", 20 to
+//! 30, and 02, f, for 31 and 32).
 //!
 //! The offsets of a book follow from its steps, since its bodies leave no gaps.
 //! So the reader has only to check them, and the writer works them out.
 
-use crate::settings::{self, Unfit};
+use crate::settings::{Settings, Unfit};
 
 /// The bound of refusal 20. No book is as long as that: the contents come to two
 /// bytes more than a multiple of four, and the bodies to a multiple of four, so
@@ -30,6 +30,7 @@ pub enum Refusal {
     FirstByte = 22,
     Count = 23,
     ContentsCut = 24,
+    /// The spare byte of an entry says nothing that it can say.
     Spare = 25,
     Offset = 26,
     BodyPastEnd = 27,
@@ -53,6 +54,7 @@ impl Refusal {
 impl From<Unfit> for Refusal {
     fn from(unfit: Unfit) -> Self {
         match unfit {
+            Unfit::Options => Self::Spare,
             Unfit::Sections => Self::Sections,
             Unfit::Mask => Self::Mask,
         }
@@ -60,11 +62,11 @@ impl From<Unfit> for Refusal {
 }
 
 /// What the contents say of one capture. Any numbers may be handed to [`write`], but
-/// in a book n and mask are settings that the judge takes (paper: 02, f).
+/// in a book n, spare byte and mask are settings that the judge takes (paper: 02, f).
 #[derive(Clone, Copy, Debug, PartialEq, Eq)]
 pub struct Entry {
     pub n: u8,
-    /// Always 0 in a book, so the writer does not look at it.
+    /// The options of the settings (paper: 02, g).
     pub spare: u8,
     pub mask: u16,
     pub w: u16,
@@ -102,6 +104,16 @@ impl Entry {
         let [o3, o2, o1, o0] = self.offset.to_be_bytes();
         let [s1, s0] = self.steps.to_be_bytes();
         [self.n, self.spare, m1, m0, w1, w0, o3, o2, o1, o0, s1, s0]
+    }
+
+    #[inline]
+    pub fn settings(&self) -> Settings {
+        Settings {
+            n: self.n,
+            options: self.spare,
+            mask: self.mask,
+            w: self.w,
+        }
     }
 
     fn body_bytes(&self) -> usize {
@@ -160,7 +172,7 @@ pub fn write(contents: &Contents, bodies: &[u8], out: &mut [u8]) -> Result<usize
     // The greatest sum is 64 * 65,535 * 4, far from an overflow.
     let mut expected = 0;
     for entry in entries {
-        settings::check(entry.n, entry.mask)?;
+        entry.settings().check()?;
         expected += entry.body_bytes();
     }
     if bodies.len() != expected {
@@ -219,12 +231,9 @@ fn read_head(book: &[u8]) -> Result<(u8, &[[u8; ENTRY_BYTES]]), Refusal> {
 
 /// Refusals 25, 31, 32, 26 and 27 of an entry whose body belongs at `start`.
 /// Answers where the body ends. Each entry goes through all of them before the next
-/// is looked at (paper: "Numbered refusals", the orders; 02, f).
+/// is looked at (paper: "Numbered refusals", the orders; 02, f and g).
 fn check_entry(entry: &Entry, start: usize, book_bytes: usize) -> Result<usize, Refusal> {
-    if entry.spare != 0 {
-        return Err(Refusal::Spare);
-    }
-    settings::check(entry.n, entry.mask)?;
+    entry.settings().check()?;
     if usize::try_from(entry.offset) != Ok(start) {
         return Err(Refusal::Offset);
     }
@@ -245,18 +254,14 @@ fn write_contents(count: u8, entries: &[Entry], front: &mut [u8]) {
     }
 }
 
-/// The entries as they stand in a book that is not too long: with the spare
-/// byte 0, and the offset where the body before them ends.
+/// The entries as they stand in a book that is not too long: with the offset where
+/// the body before them ends.
 fn placed(entries: &[Entry]) -> impl Iterator<Item = Entry> + '_ {
     let mut end = contents_bytes(entries.len());
     entries.iter().map(move |&entry| {
         let offset = end as u32;
         end += entry.body_bytes();
-        Entry {
-            spare: 0,
-            offset,
-            ..entry
-        }
+        Entry { offset, ..entry }
     })
 }
 

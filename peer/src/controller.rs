@@ -1,12 +1,13 @@
 //! One end of the group (paper: "One step"), with the refusals that a step and
 //! the making of a fresh record can meet (paper: "Numbered refusals").
 //!
-//! Between two steps an end knows no more than its [`Record`]. So the command it
-//! holds, the section it waits for, and the one that stays among its equals, are
-//! read back from the K1 last sent.
+//! Between two steps an end knows no more than its [`Record`]. So the section it
+//! waits for, and the one that stays among its equals, are read back from the K1 last
+//! sent. The command it holds is read back from there too, unless it has the setting
+//! hold, with which it is kept in a place of its own (paper: 02, g).
 
 use crate::pair::{self, Received, Request};
-use crate::settings::{self, Unfit};
+use crate::settings::{self, Settings, Unfit, HOLD};
 use std::cmp::Reverse;
 
 /// The greatest condition a section can have (paper: "One step").
@@ -33,6 +34,7 @@ pub enum Refusal {
     Condition = 5,
     Command = 6,
     CommandChannel = 7,
+    Options = 25,
 }
 
 impl Refusal {
@@ -44,6 +46,7 @@ impl Refusal {
 impl From<Unfit> for Refusal {
     fn from(unfit: Unfit) -> Self {
         match unfit {
+            Unfit::Options => Self::Options,
             Unfit::Sections => Self::Sections,
             Unfit::Mask => Self::Mask,
         }
@@ -52,9 +55,11 @@ impl From<Unfit> for Refusal {
 
 /// All that an end keeps from step to step. The fields are plain numbers,
 /// because a caller may hand any record to [`step`].
-#[derive(Clone, Copy, Debug, PartialEq, Eq)]
+#[derive(Clone, Copy, Debug, PartialEq, Eq, Hash)]
 pub struct Record {
     pub n: u8,
+    /// As in [`Settings`].
+    pub options: u8,
     /// Bit c - 1 is set when section c is of high priority.
     pub mask: u16,
     pub w: u16,
@@ -64,17 +69,50 @@ pub struct Record {
     pub sent: u8,
     /// The steps of wait left.
     pub left: u16,
+    /// With hold the command that is held, as the K1 that sends it.
+    pub held: u8,
+}
+
+/// Stands where no command is held, and without hold always.
+const NONE_HELD: u8 = 0x00;
+
+/// What a record says that is acceptable.
+#[derive(Clone, Copy)]
+struct Known {
+    /// The accepted pair.
+    accepted: pair::Record,
+    /// What the K1 last sent asks for.
+    last: K1,
+    /// The command that is held.
+    held: Option<K1>,
 }
 
 impl Record {
-    /// Reads the accepted pair and the K1 last sent, or nothing if no step could
-    /// have left such a record (paper: refusal 3).
-    fn read(&self) -> Option<(pair::Record, K1)> {
+    /// Nothing is read of a record that is not acceptable (paper: refusal 3).
+    fn read(&self) -> Option<Known> {
         let [k1, k2] = self.accepted;
         let accepted = pair::read(self.n, k1, k2).usable()?;
         let last = K1::read(self.n, self.sent)?;
+        let held = self.read_held(last)?;
         let possible = self.agrees_with_mask(last) && self.has_wait_of(last.request);
-        possible.then_some((accepted, last))
+        possible.then_some(Known {
+            accepted,
+            last,
+            held,
+        })
+    }
+
+    /// The command that is held, if there is one; and nothing at all if it is none that
+    /// can be given, if it is held without hold, or if there are no such options (paper:
+    /// refusal 3; 02, g). With hold what was last sent has no part in it, so that a
+    /// command last sent may be one that is not held.
+    fn read_held(&self, last: K1) -> Option<Option<K1>> {
+        match (self.options, self.held) {
+            (0, NONE_HELD) => Some(last.command()),
+            (HOLD, NONE_HELD) => Some(None),
+            (HOLD, held) => K1::read(self.n, held)?.command().map(Some),
+            _ => None,
+        }
     }
 
     /// No exception for protection is needed: it counts as high, and the table
@@ -134,15 +172,23 @@ impl Answer {
 }
 
 /// Makes the record of an end that has neither sent nor accepted anything yet.
-pub fn fresh(n: u8, mask: u16, w: u16) -> Result<Record, Refusal> {
-    settings::check(n, mask)?;
+pub fn fresh(settings: Settings) -> Result<Record, Refusal> {
+    settings.check()?;
+    let Settings {
+        n,
+        options,
+        mask,
+        w,
+    } = settings;
     Ok(Record {
         n,
+        options,
         mask,
         w,
         accepted: pair::pack(IDLE),
         sent: K1::NO_REQUEST.byte(),
         left: 0,
+        held: NONE_HELD,
     })
 }
 
@@ -210,11 +256,12 @@ impl K1 {
         standing(self.request.code(), self.channel)
     }
 
-    fn is_command(self) -> bool {
-        matches!(
-            self.request,
-            Request::Lockout | Request::ForcedSwitch | Request::ManualSwitch
-        )
+    /// This one, if it is what a command asks for.
+    fn command(self) -> Option<Self> {
+        match self.request {
+            Request::Lockout | Request::ForcedSwitch | Request::ManualSwitch => Some(self),
+            _ => None,
+        }
     }
 }
 
@@ -266,10 +313,7 @@ enum Fate {
 /// A step that no refusal stops, with the record and the command read.
 struct Step<'a> {
     record: Record,
-    /// What the record's accepted pair says.
-    accepted: pair::Record,
-    /// What the K1 last sent asks for.
-    last: K1,
+    known: Known,
     /// The condition of section 0, and those of the sections from 1 up.
     protection: u8,
     sections: &'a [u8],
@@ -286,13 +330,12 @@ impl<'a> Step<'a> {
         channel: u8,
     ) -> Result<Self, Refusal> {
         settings::check(record.n, record.mask)?;
-        let (accepted, last) = record.read().ok_or(Refusal::Record)?;
+        let known = record.read().ok_or(Refusal::Record)?;
         let (protection, sections) = check_conditions(record.n, conditions)?;
         let command = Command::read(record.n, command, channel)?;
         Ok(Self {
             record,
-            accepted,
-            last,
+            known,
             protection,
             sections,
             command,
@@ -318,6 +361,7 @@ impl<'a> Step<'a> {
                 accepted: pair::pack(accepted),
                 sent: k1,
                 left: wait_left(sent, wait),
+                held: self.kept(command),
                 ..self.record
             },
             k1,
@@ -337,7 +381,7 @@ impl<'a> Step<'a> {
             _ if self.protection == FAILED => (IDLE, 0),
             Received::Alarm => (IDLE, 0),
             Received::Usable(record) => (record, 0),
-            Received::Marked(mark) => (self.accepted, mark.number()),
+            Received::Marked(mark) => (self.known.accepted, mark.number()),
         }
     }
 
@@ -345,7 +389,7 @@ impl<'a> Step<'a> {
     /// given one as far as the held one decides it. Repeating the held command
     /// is denied like any other of its rank.
     fn weigh_command(&self) -> (Option<K1>, Fate) {
-        let held = Some(self.last).filter(|last| last.is_command());
+        let held = self.known.held;
         match (self.command, held) {
             (Command::Absent, _) => (held, Fate::NoneGiven),
             (Command::Clear, _) => (None, Fate::Taken),
@@ -360,7 +404,8 @@ impl<'a> Step<'a> {
     /// WTR is no candidate. Only this end's own fail or degrade of a working
     /// section starts a wait (paper: "Errors a good reader makes").
     fn wait(&self) -> u16 {
-        match (self.command, self.last.request) {
+        let Known { last, .. } = self.known;
+        match (self.command, last.request) {
             (Command::Clear, _) => 0,
             // Refusal 3 keeps out a WTR with no wait left.
             (_, Request::WaitToRestore) => self.record.left - 1,
@@ -370,7 +415,7 @@ impl<'a> Step<'a> {
                 | Request::SignalFailLow
                 | Request::SignalDegradeHigh
                 | Request::SignalDegradeLow,
-            ) if self.last.channel > 0 => self.record.w,
+            ) if last.channel > 0 => self.record.w,
             _ => 0,
         }
     }
@@ -380,7 +425,7 @@ impl<'a> Step<'a> {
     fn local_request(&self, command: Option<K1>, wait: u16) -> K1 {
         let waiting = K1 {
             request: Request::WaitToRestore,
-            channel: self.last.channel,
+            channel: self.known.last.channel,
         };
         let of_protection = self.condition_request(0, self.protection);
         (1..)
@@ -398,7 +443,7 @@ impl<'a> Step<'a> {
     /// 8.10). Section 0 counts as if it had come first, and is the lower of two that
     /// did: so it wins its tie.
     fn local_standing(&self, candidate: K1) -> (u8, bool, Reverse<u8>) {
-        let came_first = candidate == self.last || candidate.channel == 0;
+        let came_first = candidate == self.known.last || candidate.channel == 0;
         (candidate.rank(), came_first, Reverse(candidate.channel))
     }
 
@@ -416,13 +461,26 @@ impl<'a> Step<'a> {
         })
     }
 
-    /// Rule 5, the command. To forget one that was not sent takes no doing: the
-    /// next step looks for it in the K1 of this one.
+    /// Rule 5, the command: what the record keeps of it. With hold that is all, sent or
+    /// not (paper: 02, g). Without it, to forget one that was not sent takes no doing:
+    /// the next step looks for it in the K1 of this one.
+    fn kept(&self, command: Option<K1>) -> u8 {
+        match command {
+            Some(command) if self.holds() => command.byte(),
+            _ => NONE_HELD,
+        }
+    }
+
+    /// Rule 5, the fate: what is forgotten was denied. With hold nothing is (paper: 02, g).
     fn fate_after(&self, fate: Fate, sent: K1) -> Fate {
         match self.command {
-            Command::New(new) if new != sent => Fate::Denied,
+            Command::New(new) if new != sent && !self.holds() => Fate::Denied,
             _ => fate,
         }
+    }
+
+    fn holds(&self) -> bool {
+        self.record.options == HOLD
     }
 }
 

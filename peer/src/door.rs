@@ -3,13 +3,14 @@
 
 mod peer;
 
+use crate::settings::Settings;
 pub use peer::{record_bytes, record_of, verdict_bytes, Peer};
 
-pub const RECORD: usize = 10;
+pub const RECORD: usize = 12;
 pub const K1: usize = 4;
 pub const DECODED: usize = 6;
 pub const ENCODED: usize = 2;
-pub const STEP: usize = 17;
+pub const STEP: usize = 19;
 pub const VERDICT: usize = 3;
 pub const CHANGES: usize = 2;
 pub const CHANGE: usize = 3;
@@ -26,11 +27,11 @@ pub struct Tables<'a> {
 
 /// All of them fill what they are lent as the header says, and all but two answer the
 /// refusal, or 0: `k1` has nothing to refuse, and `table` answers the length of its text,
-/// which tells of a refusal. Where the header has K1 and K2 of a received pair, here is
-/// the pair; where it has a list and how long that is, here is the list; and the two
-/// tables of causes go together.
+/// which tells of a refusal. Where the header has n, options, mask and wait, here are the
+/// settings; where it has K1 and K2 of a received pair, here is the pair; where it has a
+/// list and how long that is, here is the list; and the two tables of causes go together.
 pub trait Door: Sync {
-    fn fresh(&self, n: u8, mask: u16, wait: u16, record: &mut [u8; RECORD]) -> u8;
+    fn fresh(&self, settings: Settings, record: &mut [u8; RECORD]) -> u8;
 
     fn k1(&self, k1: u8, out: &mut [u8; K1]);
 
@@ -56,13 +57,11 @@ pub trait Door: Sync {
         out: &mut [u8; STEP],
     ) -> u8;
 
-    fn judge(&self, n: u8, mask: u16, wait: u16, capture: &[u8], out: &mut [u8; VERDICT]) -> u8;
+    fn judge(&self, settings: Settings, capture: &[u8], out: &mut [u8; VERDICT]) -> u8;
 
     fn causes(
         &self,
-        n: u8,
-        mask: u16,
-        wait: u16,
+        settings: Settings,
         capture: &[u8],
         tables: Tables,
         out: &mut [u8; VERDICT],

@@ -12,11 +12,12 @@ pub mod table;
 use crate::book::{MOST_BYTES, STEP_BYTES};
 use crate::causes::Cause;
 use crate::controller::{self, Record};
+use crate::settings::Settings;
 
 /// A captured step: the pair received, then the pair sent (paper: "The judge").
 pub type Row = [u8; STEP_BYTES];
 
-/// Refusals 8 and 9. The two before them are those of a fresh record.
+/// Refusals 8 and 9. Those before them are those of a fresh record.
 const NOT_WHOLE_STEPS: u8 = 8;
 const TOO_LONG: u8 = 9;
 
@@ -35,15 +36,15 @@ pub enum Verdict {
 }
 
 /// The verdict on a capture, or the paper's number for its refusal.
-pub fn judge(n: u8, mask: u16, wait: u16, capture: &[u8]) -> Result<Verdict, u8> {
-    let (start, rows) = admit(n, mask, wait, capture)?;
-    Ok(explain(start, rows, &causes(n)))
+pub fn judge(settings: Settings, capture: &[u8]) -> Result<Verdict, u8> {
+    let (start, rows) = admit(settings, capture)?;
+    Ok(explain(start, rows, &causes(settings.n)))
 }
 
 /// A fresh record and the steps of a capture, unless it is refused. The order of the
-/// checks is the paper's: 1, 2, 8, 9.
-pub fn admit(n: u8, mask: u16, wait: u16, capture: &[u8]) -> Result<(Record, &[Row]), u8> {
-    let start = controller::fresh(n, mask, wait).map_err(controller::Refusal::number)?;
+/// checks is the paper's: 1, 2, 8, 9; options that there are not come before them.
+pub fn admit(settings: Settings, capture: &[u8]) -> Result<(Record, &[Row]), u8> {
+    let start = controller::fresh(settings).map_err(controller::Refusal::number)?;
     Ok((start, rows_of(capture)?))
 }
 
@@ -71,7 +72,8 @@ fn explain(start: Record, rows: &[Row], causes: &[Cause]) -> Verdict {
 
 /// All records, each once, that a captured step can have led to. Two causes may
 /// part them for good: under LO a failed section 0 does not show (paper: "Errors
-/// a good reader makes").
+/// a good reader makes"), and with hold a command that something else outranks does not
+/// (paper: 02, g).
 fn reached_by(before: &[Record], row: Row, causes: &[Cause]) -> Vec<Record> {
     let outcomes = before.iter().flat_map(|&record| {
         causes

@@ -15,11 +15,12 @@ use crate::door::{
     Door, Tables, CHANGE, CHANGES, CONTENTS, DECODED, ENCODED, K1, PAGE, RECORD, SIZE, STEP,
     VERDICT,
 };
+use crate::settings::Settings;
 
 /// As in the header, with its `size_t` as `usize`.
 mod declared {
     unsafe extern "C" {
-        pub fn chainplater_fresh(n: u8, mask: u16, wait: u16, record: *mut u8) -> u8;
+        pub fn chainplater_fresh(n: u8, options: u8, mask: u16, wait: u16, record: *mut u8) -> u8;
 
         pub fn chainplater_k1(k1: u8, out: *mut u8);
 
@@ -47,6 +48,7 @@ mod declared {
 
         pub fn chainplater_judge(
             n: u8,
+            options: u8,
             mask: u16,
             wait: u16,
             capture: *const u8,
@@ -56,6 +58,7 @@ mod declared {
 
         pub fn chainplater_causes(
             n: u8,
+            options: u8,
             mask: u16,
             wait: u16,
             capture: *const u8,
@@ -110,9 +113,15 @@ pub fn linked() -> Option<Library> {
 
 impl Door for Library {
     #[inline]
-    fn fresh(&self, n: u8, mask: u16, wait: u16, record: &mut [u8; RECORD]) -> u8 {
-        // SAFETY: `record` has the 10 bytes that are written.
-        unsafe { declared::chainplater_fresh(n, mask, wait, record.as_mut_ptr()) }
+    fn fresh(&self, settings: Settings, record: &mut [u8; RECORD]) -> u8 {
+        let Settings {
+            n,
+            options,
+            mask,
+            w,
+        } = settings;
+        // SAFETY: `record` has the 12 bytes that are written.
+        unsafe { declared::chainplater_fresh(n, options, mask, w, record.as_mut_ptr()) }
     }
 
     #[inline]
@@ -152,8 +161,8 @@ impl Door for Library {
         channel: u8,
         out: &mut [u8; STEP],
     ) -> u8 {
-        // SAFETY: `record` has the 10 bytes and `conditions` the `count` bytes that
-        // are read, `out` the 17 that are written; it overlaps neither.
+        // SAFETY: `record` has the 12 bytes and `conditions` the `count` bytes that
+        // are read, `out` the 19 that are written; it overlaps neither.
         unsafe {
             declared::chainplater_step(
                 record.as_ptr(),
@@ -169,19 +178,23 @@ impl Door for Library {
     }
 
     #[inline]
-    fn judge(&self, n: u8, mask: u16, wait: u16, capture: &[u8], out: &mut [u8; VERDICT]) -> u8 {
+    fn judge(&self, settings: Settings, capture: &[u8], out: &mut [u8; VERDICT]) -> u8 {
+        let Settings {
+            n,
+            options,
+            mask,
+            w,
+        } = settings;
         let (start, length) = (capture.as_ptr(), capture.len());
         // SAFETY: `capture` has the `length` bytes that are read, `out` the 3 that
         // are written; they do not overlap.
-        unsafe { declared::chainplater_judge(n, mask, wait, start, length, out.as_mut_ptr()) }
+        unsafe { declared::chainplater_judge(n, options, mask, w, start, length, out.as_mut_ptr()) }
     }
 
     #[inline]
     fn causes(
         &self,
-        n: u8,
-        mask: u16,
-        wait: u16,
+        settings: Settings,
         capture: &[u8],
         tables: Tables,
         out: &mut [u8; VERDICT],
@@ -195,9 +208,10 @@ impl Door for Library {
         // the 3 bytes that are written; none of these three overlaps any other.
         unsafe {
             declared::chainplater_causes(
-                n,
-                mask,
-                wait,
+                settings.n,
+                settings.options,
+                settings.mask,
+                settings.w,
                 capture.as_ptr(),
                 capture.len(),
                 conditions.as_mut_ptr(),

@@ -1,14 +1,15 @@
 //! A second reading of the scope paper (01), with what is in force of the change
-//! requests (02): a, c, d, e, f, j, and b, which changes nothing that is answered.
+//! requests (02): a, c, d, e, f, g, j, and b, which changes nothing that is answered.
 //!
 //! Everything here was written from the papers alone, and `door` and `library` from
 //! `include/chainplater.h` besides. The header has words for the table too, and they were
 //! read: how it stands on a page, and how long it can be, is from there, and what it says
-//! from the paper, as it was before. None of this package comes from the Rattle source, by
-//! copying or by looking: two programs that share an author's misreading agree with each
-//! other and prove nothing. Every landing that changes this package keeps it that way.
+//! from the paper, as it was before. So is how a record keeps the command that is held.
+//! None of this package comes from the Rattle source, by copying or by looking: two
+//! programs that share an author's misreading agree with each other and prove nothing.
+//! Every landing that changes this package keeps it that way.
 //!
-//! Thirteen points were not reached so: what `pair::rank` answers for a channel that
+//! Sixteen points were not reached so: what `pair::rank` answers for a channel that
 //! no group has, and `book::body` for an entry whose body is not all in the
 //! book; that 31 and 32 come right behind 25, in 02, f, and so before 26 of their
 //! entry; that a request was last sent, in 02 d, if the step before sent it, and no
@@ -18,8 +19,11 @@
 //! has fewer entries than are said to be listed; that it comes before 12; that a list
 //! is looked up in only if it is that of the whole capture; what `switches` prints,
 //! names and all; that, in 02, a, 11 comes before the verdict, and so for a capture
-//! without an explanation too; and what `causes` prints. The third and the fourth take
-//! 02 at its word, as the order of 16 and 12 does, and on the others the papers are
+//! without an explanation too; what `causes` prints; that, in 02, g, options which there
+//! are not are refused by 25, before all else, where settings are handed in, and by 3 in a
+//! record; that a command is denied also while the held one is outranked; and that with
+//! hold one that was last sent need not be held. The third and the fourth take 02 at its
+//! word, as the order of 16 and 12 does, and the last two; on the others the papers are
 //! silent. What is answered was settled for both programs, and their agreement on it is
 //! no evidence.
 //!
@@ -27,11 +31,16 @@
 //! with an alarm or without: it was handed over. So was the equation by which that scan
 //! passes over rows: one that equals the row before, and does not send WTR, leaves it as
 //! it was. What speaks for both is that it agrees with the judge by brute force, which
-//! was written from the papers alone. And so was the way of `causes::fill`, to keep what
-//! a step leaves open in the tables and to settle it from the last step back. What speaks
-//! for that is the controller, which sends the captures under the causes that are found.
-//! Handed over, too, was the book of `books::longest`, and how many characters its table
-//! has. What speaks for that is a search over all numbers of steps, which was not.
+//! was written from the papers alone. That hold changes no verdict was handed over as
+//! well, and the scan does not ask for it. The judge by brute force does, with the command
+//! that is held in its records: in groups of one section and of two it finds the same, on
+//! all captures, as far as `judge::tests::hold` goes. And handed over was the way of
+//! `causes::fill`, to keep what a step leaves open in the tables and to settle it from the
+//! last step back, and to clear, with hold, in the first step behind a command that sends
+//! none. What speaks for that is the controller, which sends the captures under the causes
+//! that are found. Handed over, too, was the book of `books::longest`, and how many
+//! characters its table has. What speaks for that is a search over all numbers of steps,
+//! which was not.
 //!
 //! The programs are compared by what they print: `sequences` for the byte pair and
 //! the controller, `trials` for the capture book, `k1` for what is said of each K1

@@ -1,7 +1,7 @@
 //! The judge, over explained captures of several lengths.
 
 use super::{Row, Unit, Work, SETTINGS};
-use crate::books::capture::{Capture, Settings};
+use crate::books::capture::Capture;
 use crate::books::runs::{self, COMMON};
 use crate::door::{Door, Peer, VERDICT};
 use crate::draws::Draws;
@@ -42,9 +42,9 @@ pub fn works() -> Vec<(u8, Vec<Capture>, usize)> {
 /// How many are explained.
 pub fn judge(door: &impl Door, captures: &[Capture]) -> usize {
     let is_explained = |capture: &&Capture| {
-        let Settings { n, mask, w } = capture.settings;
         let mut out = [0; VERDICT];
-        door.judge(n, mask, w, capture.rows.as_flattened(), &mut out);
+        let rows = capture.rows.as_flattened();
+        door.judge(capture.settings, rows, &mut out);
         out[0] == EXPLAINED
     };
     captures.iter().filter(is_explained).count()

@@ -5,7 +5,7 @@
 
 use super::captures::{self, judge, EXPLAINED};
 use super::{lines, Row, Unit, Work, SETTINGS};
-use crate::books::capture::{Capture, Settings};
+use crate::books::capture::Capture;
 use crate::causes::replay;
 use crate::door::{Door, Peer, Tables, VERDICT};
 use std::hint::black_box;
@@ -75,13 +75,13 @@ fn find_all(door: &impl Door, captures: &[Capture], lent: &mut Lent) -> usize {
 
 /// Whether it is explained.
 fn find(door: &impl Door, capture: &Capture, lent: &mut Lent) -> bool {
-    let Settings { n, mask, w } = capture.settings;
     let tables = Tables {
         conditions: &mut lent.conditions,
         commands: &mut lent.commands,
     };
     let mut out = [0; VERDICT];
-    door.causes(n, mask, w, capture.rows.as_flattened(), tables, &mut out);
+    let rows = capture.rows.as_flattened();
+    door.causes(capture.settings, rows, tables, &mut out);
     black_box(lent);
     out[0] == EXPLAINED
 }

@@ -5,12 +5,13 @@
 
 use super::captures::judge;
 use super::{Row, Unit, Work, SETTINGS};
-use crate::books::capture::{Capture, Settings};
+use crate::books::capture::Capture;
 use crate::books::pairs::{said, IDLE};
 use crate::books::runs::{self, Given, Run, COMMON};
 use crate::door::{Door, Peer};
 use crate::draws::Draws;
 use crate::pair::Request;
+use crate::settings::Settings;
 use std::hint::black_box;
 use std::io;
 use std::slice::from_ref;

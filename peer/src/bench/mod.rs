@@ -9,25 +9,14 @@ mod lines;
 mod steps;
 mod switches;
 
-use crate::books::capture::Settings;
 use crate::door::Door;
+use crate::settings::Settings;
 use clock::{Measured, Spread, RUNS};
 use std::hint::black_box;
 use std::io::{self, Write};
 
 /// The groups of which steps and captures are timed: a small one, and the greatest.
-const SETTINGS: [Settings; 2] = [
-    Settings {
-        n: 2,
-        mask: 1,
-        w: 3,
-    },
-    Settings {
-        n: 14,
-        mask: 0x2A55,
-        w: 3,
-    },
-];
+const SETTINGS: [Settings; 2] = [Settings::new(2, 1, 3), Settings::new(14, 0x2A55, 3)];
 
 /// What a row's figures are in.
 #[derive(Clone, Copy)]

@@ -4,15 +4,16 @@
 //! highest rank down and from section 0 up comes to last. In the first of these it is
 //! what was last sent, so such a search may look at it first (02 d). In the second the
 //! far end keeps a forced switch up: RR is sent in each step, nobody has a claim, and
-//! there is the most to look at.
+//! there is the most to look at. None of these ends has hold; one more walk is drawn for an
+//! end that has (02, g).
 
 use super::{Row, Unit, Work, SETTINGS};
-use crate::books::capture::Settings;
 use crate::books::pairs;
 use crate::books::runs::{Given, Run, COMMON};
 use crate::controller;
 use crate::door::{record_bytes, record_of, Door, Peer, RECORD, STEP};
 use crate::draws::Draws;
+use crate::settings::Settings;
 use std::hint::black_box;
 use std::io;
 
@@ -70,12 +71,13 @@ impl Walk {
         }
     }
 
-    fn all(settings: Settings) -> [Self; 4] {
+    fn all(settings: Settings) -> [Self; 5] {
         [
             Self::drawn(settings),
             Self::quiet(settings),
             Self::last_degraded(settings, NOTHING),
             Self::last_degraded(settings, SWITCHED),
+            Self::drawn(settings.with_hold()),
         ]
     }
 
@@ -97,12 +99,13 @@ pub fn rows(library: &impl Door) -> io::Result<Vec<Row>> {
     for settings in SETTINGS {
         let name = format!("step, n = {}", settings.n);
         let work = |more| Work(format!("{name}{more}"), Unit::Step, STEPS);
-        let [drawn, quiet, last, switched] = &Walk::all(settings);
+        let [drawn, quiet, last, switched, holding] = &Walk::all(settings);
         for (more, walk) in [
             ("", drawn),
             (", quiet", quiet),
             (", last section degraded", last),
             (", last section degraded, far end switched", switched),
+            (", with hold", holding),
         ] {
             rows.push(work(more).measure(|| go(library, walk), || go(&Peer, walk))?);
         }
@@ -183,10 +186,32 @@ mod tests {
     #[test]
     fn the_last_section_has_a_claim_unless_the_far_end_is_switched() {
         for settings in SETTINGS {
-            let [_, _, last, switched] = &Walk::all(settings);
+            let [_, _, last, switched, _] = &Walk::all(settings);
             let sent = |walk| record_of(&go_with_own_record(walk)).sent;
             assert_eq!(sent(last), 0xA0 | settings.n);
             assert_eq!(sent(switched), 0x21);
         }
+    }
+
+    /// In one of ten steps at least, and only with hold.
+    #[test]
+    fn commands_wait_in_the_walk_with_hold() {
+        for settings in SETTINGS {
+            let [drawn, .., holding] = &Walk::all(settings);
+            assert_eq!(waiting(drawn), 0);
+            assert!(waiting(holding) >= STEPS / 10, "{}", waiting(holding));
+        }
+    }
+
+    fn waiting(walk: &Walk) -> usize {
+        let mut record = record_of(&walk.start);
+        let waits = walk.steps.iter().filter(|(conditions, given)| {
+            let [k1, k2] = given.received;
+            let conditions = &conditions[..walk.sections()];
+            let answer = controller::step(record, k1, k2, conditions, given.command, given.channel);
+            record = answer.record;
+            ![0x00, record.sent].contains(&record.held)
+        });
+        waits.count()
     }
 }

@@ -159,7 +159,7 @@ fn the_reader_refuses_by_number() {
         (&[1, 255], 23),
         (&[1, 1], 24),
         (&PAPER[..25], 24),
-        (&paper_with(&[(3, 1)]), 25),
+        (&paper_with(&[(3, 2)]), 25),
         (&paper_with(&[(15, 0x80)]), 25),
         (&paper_with(&[(2, 0)]), 31),
         (&paper_with(&[(2, 15)]), 31),
@@ -238,10 +238,10 @@ fn the_reader_refuses_in_order() {
 #[test]
 fn entries_are_refused_one_after_the_other() {
     for (changes, number) in [
-        (&[(15, 1), (13, 6)][..], 27),
-        (&[(15, 1), (11, 0)], 26),
+        (&[(15, 2), (13, 6)][..], 27),
+        (&[(15, 2), (11, 0)], 26),
         (&[(23, 0), (13, 6)], 27),
-        (&[(15, 1), (3, 1)], 25),
+        (&[(15, 2), (3, 2)], 25),
         // Settings of the second, behind the last of the first; and of the first,
         // before the first of the second.
         (&[(14, 0), (13, 6)], 27),
@@ -249,8 +249,8 @@ fn entries_are_refused_one_after_the_other() {
         (&[(16, 1), (13, 6)], 27),
         (&[(16, 1), (11, 0)], 26),
         (&[(5, 4), (14, 0)], 32),
-        (&[(5, 4), (15, 1)], 32),
-        (&[(2, 0), (15, 1)], 31),
+        (&[(5, 4), (15, 2)], 32),
+        (&[(2, 0), (15, 2)], 31),
         // The last entry is looked at before what is left over.
         (&[(14, 0), (25, 1)], 31),
         (&[(16, 1), (25, 1)], 32),
@@ -259,6 +259,39 @@ fn entries_are_refused_one_after_the_other() {
         (&[(13, 2), (25, 255)], 26),
     ] {
         assert_eq!(refusal_of(&paper_with(changes)), Some(number));
+    }
+}
+
+/// Every spare byte in either entry, before n and mask that do not fit and with such that
+/// do: to the reader, and to the writer, which has bodies that are too long (02, g).
+#[test]
+fn spare_bytes_are_refused_above_1() {
+    for (spare, n) in (0..=255).flat_map(|spare| [(spare, 2), (spare, 0)]) {
+        let expected = match (spare, n) {
+            (2.., _) => Some(25),
+            (_, 0) => Some(31),
+            _ => None,
+        };
+        for (entry, row) in [2, 14].into_iter().enumerate() {
+            let book = paper_with(&[(row, n), (row + 1, spare)]);
+            assert_eq!(refusal_of(&book), expected, "{spare} {n} {entry}");
+            let mut contents = paper_contents();
+            contents.places[entry].n = n;
+            contents.places[entry].spare = spare;
+            assert_eq!(write_refusal(&contents, &[0; 20], 46), expected);
+            assert_eq!(write_refusal(&contents, &[0; 21], 0), expected.or(Some(30)));
+        }
+    }
+}
+
+#[test]
+fn the_spare_byte_is_written_where_it_is_read() {
+    for spares in [[0, 1], [1, 0], [1, 1]] {
+        let book = paper_with(&[(3, spares[0]), (15, spares[1])]);
+        let read = read(&book).unwrap();
+        let of_entries = read.entries().unwrap().iter().map(|entry| entry.spare);
+        assert!(of_entries.eq(spares));
+        assert_eq!(written(&read, &book[26..]), book);
     }
 }
 
@@ -340,18 +373,28 @@ fn the_longest_book_is_two_bytes_short_of_the_bound() {
 /// Starts with every fault and mends one after the other.
 #[test]
 fn the_writer_refuses_in_order() {
-    let mut long = contents(&[with_settings(entry_of_steps(16_000), (15, 0xFFFF)); 2]);
+    let worst = Entry {
+        spare: 2,
+        ..entry_of_steps(16_000)
+    };
+    let mut long = contents(&[with_settings(worst, (15, 0xFFFF)); 2]);
     long.count = 65;
     assert_eq!(write_refusal(&long, &[0], 0), Some(23));
     long.count = 2;
-    for (place, settings, number) in [
-        (0, (15, 0xFFFF), 31),
-        (0, (14, 0xFFFF), 32),
-        (0, (14, 0x3FFF), 31),
-        (1, (1, 0xFFFF), 32),
-        (1, (1, 1), 30),
+    for (place, spare, settings, number) in [
+        (0, 2, (15, 0xFFFF), 25),
+        (0, 1, (15, 0xFFFF), 31),
+        (0, 1, (14, 0xFFFF), 32),
+        (0, 1, (14, 0x3FFF), 25),
+        (1, 0, (15, 0xFFFF), 31),
+        (1, 0, (1, 0xFFFF), 32),
+        (1, 0, (1, 1), 30),
     ] {
-        long.places[place] = with_settings(long.places[place], settings);
+        let entry = Entry {
+            spare,
+            ..long.places[place]
+        };
+        long.places[place] = with_settings(entry, settings);
         assert_eq!(write_refusal(&long, &[0], 0), Some(number), "{settings:?}");
     }
     assert_eq!(write_refusal(&long, &vec![0; 128_000], 0), Some(20));
@@ -361,9 +404,12 @@ fn the_writer_refuses_in_order() {
 #[test]
 fn the_writer_looks_at_no_more_than_it_is_given() {
     let mut given = paper_contents();
-    given.places[2..].fill(with_settings(entry_of_steps(9), (0, 0xFFFF)));
+    let unseen = Entry {
+        spare: 9,
+        ..entry_of_steps(9)
+    };
+    given.places[2..].fill(with_settings(unseen, (0, 0xFFFF)));
     for place in &mut given.places {
-        place.spare = 9;
         place.offset = u32::MAX;
     }
     assert_eq!(written(&given, &PAPER[26..]), PAPER);
@@ -419,6 +465,7 @@ impl Draws {
         let n = 1 + self.below(14) as u8;
         Entry {
             n,
+            spare: self.below(2) as u8,
             mask: self.below(1 << n) as u16,
             w: self.word(),
             ..entry_of_steps(self.below(4) as u16)

@@ -2,13 +2,14 @@
 //! failed section 0 and can be nothing else: D0 08 is sent, or F0 08 if LO is up, and
 //! from then on 00 08 is the accepted pair, until a usable one comes.
 
-use super::capture::{row, Capture, Settings, Told};
+use super::capture::{row, Capture, Told};
 use super::changes;
 use super::pairs::{self, alarmed, said, unheard, FAILED, IDLE, LOCKOUT, UNUSABLE};
 use super::runs::{self, COMMON, LOCKED};
 use crate::draws::Draws;
 use crate::judge::Row;
 use crate::pair::Request;
+use crate::settings::Settings;
 
 const SIZES: [u8; 4] = [1, 2, 5, 14];
 const SEED: u64 = 13;
@@ -181,7 +182,9 @@ mod tests {
     #[test]
     fn the_judge_finds_what_is_known_of_each_telling() {
         for told in told() {
-            assert_eq!(told.capture.judged(), told.verdict(), "{:?}", told.capture);
+            for capture in told.capture.both_ways() {
+                assert_eq!(capture.judged(), told.verdict(), "{capture:?}");
+            }
         }
     }
 

@@ -6,30 +6,18 @@ use crate::controller::{self, Record};
 use crate::judge::Row;
 #[cfg(test)]
 use crate::judge::{judge, Verdict};
+use crate::settings::{Settings, HOLD};
 use crate::trials::contents_to_write;
-
-/// Any numbers may stand here: some captures are made for the judge to refuse. A
-/// book, though, can be bound only of those that fit (02, f).
-#[derive(Clone, Copy, Debug)]
-pub struct Settings {
-    pub n: u8,
-    pub mask: u16,
-    pub w: u16,
-}
 
 impl Settings {
     /// For settings that are good.
     pub fn fresh(self) -> Record {
-        controller::fresh(self.n, self.mask, self.w).expect("settings within the paper's bounds")
+        controller::fresh(self).expect("settings within the paper's bounds")
     }
 
     /// The last section alone is of high priority.
     pub fn with_last_high(n: u8) -> Self {
-        Self {
-            n,
-            mask: 1 << (n - 1),
-            w: 2,
-        }
+        Self::new(n, 1 << (n - 1), 2)
     }
 
     /// A step that shows which pair is the accepted one: no other comes, no command is
@@ -63,10 +51,20 @@ impl Capture {
         }
     }
 
+    /// Of an end with hold, and of one without.
+    pub fn both_ways(&self) -> [Self; 2] {
+        [HOLD, 0].map(|options| {
+            let settings = Settings {
+                options,
+                ..self.settings
+            };
+            Self::new(settings, &self.rows[..])
+        })
+    }
+
     #[cfg(test)]
     pub fn judged(&self) -> Verdict {
-        let Settings { n, mask, w } = self.settings;
-        judge(n, mask, w, self.rows.as_flattened()).expect("a capture that is not refused")
+        judge(self.settings, self.rows.as_flattened()).expect("a capture that is not refused")
     }
 }
 
@@ -138,10 +136,11 @@ fn book_bytes(captures: &[Capture]) -> usize {
 }
 
 fn written(captures: &[Capture]) -> Vec<u8> {
-    let contents = contents_to_write(captures.iter().map(|Capture { settings, rows }| {
-        let Settings { n, mask, w } = *settings;
-        (n, mask, w, rows.len() as u16)
-    }));
+    let contents = contents_to_write(
+        captures
+            .iter()
+            .map(|Capture { settings, rows }| (*settings, rows.len() as u16)),
+    );
     let bodies: Vec<u8> = captures
         .iter()
         .flat_map(|capture| capture.rows.as_flattened())
@@ -157,11 +156,7 @@ mod tests {
     use super::*;
     use crate::trials::PAPER_BOOK;
 
-    const SETTINGS: Settings = Settings {
-        n: 2,
-        mask: 0,
-        w: 3,
-    };
+    const SETTINGS: Settings = Settings::new(2, 0, 3);
 
     fn of_steps(steps: usize) -> Capture {
         Capture::new(SETTINGS, vec![[0x00, 0x08, 0x00, 0x08]; steps])
@@ -180,6 +175,17 @@ mod tests {
             Capture::new(SETTINGS, second),
         ];
         assert_eq!(bind(&captures), [PAPER_BOOK]);
+    }
+
+    /// In the spare bytes of the entries (02, g).
+    #[test]
+    fn hold_is_bound_where_it_is_set() {
+        let book = bind(&of_steps(1).both_ways()).concat();
+        assert_eq!([book[3], book[15]], [1, 0]);
+        let contents = book::read(&book).unwrap();
+        let settings = contents.places[0].settings();
+        assert_eq!(settings, SETTINGS.with_hold());
+        assert_eq!(contents.places[1].settings(), SETTINGS);
     }
 
     #[test]

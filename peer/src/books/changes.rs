@@ -2,11 +2,12 @@
 //! other causes than those they were made under. In a third of the runs most rows repeat
 //! the row before.
 
-use super::capture::{row, Capture, Settings};
+use super::capture::{row, Capture};
 use super::pairs;
 use super::repeats;
 use super::runs::{self, COMMON, LONGEST};
 use crate::draws::Draws;
+use crate::settings::Settings;
 use std::collections::BTreeSet;
 
 const MOST_STEPS: usize = 40;
@@ -96,11 +97,7 @@ fn flip(draws: &mut Draws, capture: &mut Capture, count: usize) {
 
 /// The last bit of the longest capture: line bits are never sent.
 fn flipped_at_the_end() -> Capture {
-    let settings = Settings {
-        n: 2,
-        mask: 2,
-        w: 3,
-    };
+    let settings = Settings::new(2, 2, 3);
     let mut capture = runs::draw(&mut Draws::from_seed(7), COMMON, settings, LONGEST);
     capture.rows[LONGEST - 1][3] ^= 1;
     capture

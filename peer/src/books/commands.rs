@@ -1,10 +1,11 @@
 //! Captures of two commands, one sent after the other (paper: "One step", rule 2,
 //! and "Errors a good reader makes", the third), in all orders.
 
-use super::capture::{row, Capture, Settings};
+use super::capture::{row, Capture};
 use super::pairs::{channel_of, said, IDLE, UNUSABLE};
 use crate::judge::Row;
 use crate::pair::Request;
+use crate::settings::Settings;
 
 type Command = (Request, u8);
 
@@ -13,7 +14,7 @@ pub fn captures() -> Vec<Capture> {
 }
 
 fn captures_of(n: u8) -> Vec<Capture> {
-    let settings = Settings { n, mask: 1, w: 2 };
+    let settings = Settings::new(n, 1, 2);
     let answered = said(Request::Reverse, n, n);
     let manual = said(Request::ManualSwitch, 1, 1);
     let failed = said(Request::SignalFailHigh, 1, 0);
@@ -99,7 +100,7 @@ mod tests {
             } else {
                 Verdict::Unexplained(1)
             };
-            let judged = judge(3, 1, 2, rows.as_flattened());
+            let judged = judge(Settings::new(3, 1, 2), rows.as_flattened());
             assert_eq!(judged, Ok(expected), "{rows:02X?}");
         }
     }

@@ -1,11 +1,13 @@
 //! Books that are not what a writer wrote (paper: "Numbered refusals", 20 to 28;
-//! 02, f, for 31 and 32).
+//! 02, f, for 31 and 32, and g for 25).
 
-use super::capture::{bind, Capture, Settings};
+use super::capture::{bind, Capture};
 use super::runs::{self, COMMON, LONGEST};
 use super::unfit;
 use crate::book::{self, MOST_BYTES};
 use crate::draws::Draws;
+use crate::settings::Settings;
+use crate::settings::HOLD;
 use crate::trials::PAPER_BOOK;
 
 const SEED: u64 = 11;
@@ -27,9 +29,12 @@ pub fn books() -> Vec<Vec<u8>> {
 }
 
 fn drawn_book(draws: &mut Draws) -> Vec<u8> {
-    let captures: Vec<Capture> = (0..CAPTURES)
+    let mut captures: Vec<Capture> = (0..CAPTURES)
         .map(|steps| runs::draw_of_any_settings(draws, COMMON, steps))
         .collect();
+    for holding in captures.iter_mut().step_by(2) {
+        holding.settings.options = HOLD;
+    }
     bind(&captures).concat()
 }
 
@@ -81,11 +86,7 @@ fn cut_and_extended(book: &[u8]) -> Vec<Vec<u8>> {
 /// About the bound of a book, and far beyond what a pipe holds. The longest book
 /// has two bytes less than the bound.
 fn by_length(draws: &mut Draws) -> Vec<Vec<u8>> {
-    let settings = Settings {
-        n: 1,
-        mask: 0,
-        w: 3,
-    };
+    let settings = Settings::new(1, 0, 3);
     let longest = bind(&[runs::draw(draws, COMMON, settings, LONGEST)]).concat();
     (MOST_BYTES - 3..=MOST_BYTES + 1)
         .chain([70_000, 1_000_000])

@@ -5,13 +5,14 @@
 //! then on. When LO is cleared, what is sent shows the accepted pair: the one
 //! that came, or 00 08 if section 0 failed in between.
 
-use super::capture::{row, Capture, Settings, Told};
+use super::capture::{row, Capture, Told};
 use super::changes;
 use super::pairs::{self, said, IDLE, LOCKOUT, UNUSABLE};
 use super::runs::{self, LOCKED};
 use crate::draws::Draws;
 use crate::judge::Row;
 use crate::pair::Request;
+use crate::settings::Settings;
 
 const SIZES: [u8; 5] = [1, 2, 3, 5, 14];
 const MOST_COVERED: usize = 3;
@@ -147,7 +148,9 @@ mod tests {
     #[test]
     fn the_judge_finds_what_is_known_of_each_telling() {
         for told in told() {
-            assert_eq!(told.capture.judged(), told.verdict(), "{:?}", told.capture);
+            for capture in told.capture.both_ways() {
+                assert_eq!(capture.judged(), told.verdict(), "{capture:?}");
+            }
         }
     }
 

@@ -1,7 +1,8 @@
 //! The book whose table has the longest text.
 
-use super::capture::{bind, row, Capture, Settings};
+use super::capture::{bind, row, Capture};
 use super::pairs::IDLE;
+use crate::settings::Settings;
 
 /// The characters of that text, as `include/chainplater.h` has them.
 pub const CHARACTERS: usize = 1_708;
@@ -12,11 +13,7 @@ pub const CHARACTERS: usize = 1_708;
 const CAPTURES: [(usize, usize); 2] = [(54, 101), (10, 1_001)];
 
 /// Two digits of sections.
-const SETTINGS: Settings = Settings {
-    n: 14,
-    mask: 0,
-    w: 0,
-};
+const SETTINGS: Settings = Settings::new(14, 0, 0);
 
 /// Bit 5 of what is sent is 1 whatever befalls a controller (paper: "One step", rule 6).
 const NEVER_SENT: [u8; 2] = [0x00, 0x00];

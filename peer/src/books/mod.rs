@@ -5,6 +5,7 @@ pub mod capture;
 pub mod changes;
 mod commands;
 pub mod damage;
+pub mod held;
 pub mod lockout;
 pub mod longest;
 pub mod pairs;
@@ -17,7 +18,7 @@ pub mod waits;
 use crate::judge::table::{Line, Table};
 use crate::judge::Verdict;
 use crate::programs::{by_bytes, group, Comparison, Group, Kind, Reading};
-use capture::bind;
+use capture::{bind, Capture};
 
 pub const COMPARISON: Comparison = Comparison {
     program: "target/bin/judge",
@@ -34,7 +35,7 @@ pub const COMPARISON: Comparison = Comparison {
         ("  unexplained", |counts| counts.of(Kind::Unexplained)),
         ("  books by library", |counts| counts.by_library),
     ],
-    tell: |entry| format!(" n {}, mask {}, W {}", entry.n, entry.mask, entry.w),
+    tell: |entry| format!(" {}", entry.settings()),
 };
 
 fn kind(line: &Line) -> Kind {
@@ -48,21 +49,37 @@ const EXPLAINED: &[Kind] = &[Kind::Explained];
 const BOTH: &[Kind] = &[Kind::Explained, Kind::Unexplained];
 const ALL: &[Kind] = &[Kind::Explained, Kind::Unexplained, Kind::RefusedBook];
 
-pub const GROUPS: [Group; 13] = [
-    group("runs", EXPLAINED, || bind(&runs::captures())),
-    group("flipped", BOTH, || bind(&changes::flipped())),
-    group("cut", BOTH, || bind(&changes::cut())),
-    group("swapped", BOTH, || bind(&changes::swapped())),
-    group("replaced", BOTH, || bind(&changes::replaced())),
-    group("settings", BOTH, || bind(&changes::resettled())),
-    group("lockout", BOTH, || bind(&lockout::captures())),
-    group("alarms", BOTH, || bind(&alarms::captures())),
-    group("waits", BOTH, || bind(&waits::captures())),
-    group("repeats", BOTH, || bind(&repeats::captures())),
-    group("commands", BOTH, || bind(&commands::captures())),
-    group("steps", BOTH, || bind(&steps::captures())),
+pub const GROUPS: [Group; 14] = [
+    group("runs", EXPLAINED, || bound(runs::captures())),
+    group("flipped", BOTH, || bound(changes::flipped())),
+    group("cut", BOTH, || bound(changes::cut())),
+    group("swapped", BOTH, || bound(changes::swapped())),
+    group("replaced", BOTH, || bound(changes::replaced())),
+    group("settings", BOTH, || bound(changes::resettled())),
+    group("lockout", BOTH, || bound(lockout::captures())),
+    group("alarms", BOTH, || bound(alarms::captures())),
+    group("waits", BOTH, || bound(waits::captures())),
+    group("repeats", BOTH, || bound(repeats::captures())),
+    group("commands", BOTH, || bound_both_ways(&commands::captures())),
+    group("steps", BOTH, || bound_both_ways(&steps::captures())),
+    group("held", BOTH, || bound_both_ways(&held::captures())),
     group("damaged", ALL, damage::books),
 ];
+
+/// Half of the captures are bound with hold, which changes no verdict (02, g): those with an
+/// odd number of ones in their binary number, so that it goes with nothing that they have
+/// by turns.
+fn bound(mut captures: Vec<Capture>) -> Vec<Vec<u8>> {
+    for (number, capture) in captures.iter_mut().enumerate() {
+        capture.settings.options = (number.count_ones() % 2) as u8;
+    }
+    bind(&captures)
+}
+
+fn bound_both_ways(captures: &[Capture]) -> Vec<Vec<u8>> {
+    let both: Vec<Capture> = captures.iter().flat_map(Capture::both_ways).collect();
+    bind(&both)
+}
 
 /// The books of all groups whose captures are judged.
 pub fn sound() -> Vec<Vec<u8>> {
@@ -103,13 +120,38 @@ mod tests {
                 .iter()
                 .filter(|entry| entry.n <= 2 && entry.steps <= 6)
             {
-                let (n, mask, w) = (entry.n, entry.mask, entry.w);
-                let rows = book::body(&book, entry);
-                assert_eq!(scan::judge(n, mask, w, rows), judge(n, mask, w, rows));
+                let (settings, rows) = (entry.settings(), book::body(&book, entry));
+                assert_eq!(scan::judge(settings, rows), judge(settings, rows));
                 captures += 1;
             }
         }
         assert!(captures >= 8_000, "{captures}");
+    }
+
+    /// How many captures are explained and how many are not, without hold and with it.
+    fn verdicts(books: &[Vec<u8>]) -> [[u32; 2]; 2] {
+        let mut seen = [[0; 2]; 2];
+        for book in books {
+            let contents = book::read(book).expect("a sound book");
+            for entry in contents.entries().unwrap_or_default() {
+                let verdict = scan::judge(entry.settings(), book::body(book, entry));
+                let unexplained = matches!(verdict, Ok(Verdict::Unexplained(_)));
+                seen[usize::from(entry.spare)][usize::from(unexplained)] += 1;
+            }
+        }
+        seen
+    }
+
+    /// With either verdict, but for the runs, which are explained (02, g).
+    #[test]
+    fn every_group_has_captures_with_hold_and_without() {
+        let [runs, others @ .., _] = &GROUPS;
+        let [without, with] = verdicts(&runs.books());
+        assert!(without[0].min(with[0]) >= 1_000, "{without:?} {with:?}");
+        for group in others {
+            let seen = verdicts(&group.books());
+            assert!(seen.as_flattened().iter().all(|&n| n >= 50), "{seen:?}");
+        }
     }
 
     #[test]

@@ -80,6 +80,11 @@ pub fn channel_of(k1: u8) -> u8 {
     k1 & 0b1111
 }
 
+/// Whether it is what a command asks for.
+pub fn is_command(k1: u8) -> bool {
+    matches!(k1 >> 4, 0b1111 | 0b1110 | 0b1000)
+}
+
 fn draw_request(draws: &mut Draws, n: u8) -> (Request, u8) {
     let request = draws.pick(&Request::ALL);
     let channels: Vec<u8> = request.channels(n).collect();
@@ -178,5 +183,18 @@ mod tests {
         assert_eq!(said(Request::Lockout, 0, 0), LOCKOUT);
         assert_eq!(said(Request::SignalFailHigh, 0, 0), FAILED);
         assert_eq!(said(Request::Reverse, 2, 1), [0x22, 0x18]);
+    }
+
+    #[test]
+    fn three_requests_are_of_commands() {
+        let commands = [
+            Request::Lockout,
+            Request::ForcedSwitch,
+            Request::ManualSwitch,
+        ];
+        for request in Request::ALL {
+            let [k1, _] = said(request, 1, 0);
+            assert_eq!(is_command(k1), commands.contains(&request), "{request:?}");
+        }
     }
 }

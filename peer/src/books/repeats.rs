@@ -2,7 +2,7 @@
 //! over such a row, unless it sends WTR: so what may lead it astray is what stands between
 //! the runs, where they end, and how many rows a wait has.
 
-use super::capture::{row, Capture, Settings, Told};
+use super::capture::{row, Capture, Told};
 use super::pairs::{alarmed, fail, said, FAILED, IDLE, LOCKOUT, UNUSABLE};
 use super::runs::{self, Given, Habit, Run, COMMON, LOCKED};
 use super::waits::{self, Section};
@@ -11,6 +11,7 @@ use crate::book::STEP_BYTES;
 use crate::draws::Draws;
 use crate::judge::Row;
 use crate::pair::Request;
+use crate::settings::Settings;
 use std::iter::repeat_n;
 use std::ops::RangeInclusive;
 
@@ -45,7 +46,9 @@ pub fn draw(draws: &mut Draws, steps: usize) -> Capture {
     let w = draws.pick(&[settings.w, settings.w, 0, 1, 2, as_long_as_runs]);
     let habit = draws.pick(&[COMMON, LOCKED]);
     let habit = draws.pick(&[habit, habit.with_alarms()]);
-    draw_spells(draws, habit, Settings { w, ..settings }, steps)
+    let settings = Settings { w, ..settings };
+    let settings = draws.pick(&[settings, settings.with_hold()]);
+    draw_spells(draws, habit, settings, steps)
 }
 
 /// Waits of up to half as many steps, one after the other.
@@ -243,11 +246,7 @@ fn repeating() -> [Row; 10] {
 /// A run of so many rows that ends with the capture, with a row that is the same but for a
 /// byte, and with another, behind which it goes on, to and fro.
 fn runs_of(same: Row, length: usize) -> Vec<Told> {
-    let settings = Settings {
-        n: 1,
-        mask: 0,
-        w: 2,
-    };
+    let settings = Settings::new(1, 0, 2);
     let run = vec![same; length];
     // Section 0 has failed. What was held is forgotten then, and can be sent anew.
     let other = row([0x00, 0x0E], FAILED);

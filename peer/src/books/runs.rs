@@ -2,12 +2,13 @@
 //! causes to make them. In groups of more than three sections several may be bad
 //! at once, which the judge does not try there.
 
-use super::capture::{row, Capture, Settings};
+use super::capture::{row, Capture};
 use super::pairs::{self, channel_of, said};
 use crate::controller::{self, Record};
 use crate::draws::Draws;
 use crate::judge::Row;
 use crate::pair::Request;
+use crate::settings::Settings;
 use std::convert::identity;
 use std::iter::{once, repeat, repeat_n};
 
@@ -88,7 +89,7 @@ pub const CROWDED: Habit = Habit {
 pub fn captures() -> Vec<Capture> {
     let mut draws = Draws::from_seed(SEED);
     let long =
-        LONG.map(|(n, mask, w, steps)| draw(&mut draws, COMMON, Settings { n, mask, w }, steps));
+        LONG.map(|(n, mask, w, steps)| draw(&mut draws, COMMON, Settings::new(n, mask, w), steps));
     let mut captures = long.to_vec();
     let habits = repeat_n(COMMON, SHORT).chain(repeat_n(CROWDED, TIED));
     captures.extend(habits.map(|habit| {
@@ -143,11 +144,8 @@ pub fn draw_settings(draws: &mut Draws) -> Settings {
     let n = 1 + draws.byte_below(most);
     let all = (1 << n) - 1;
     let some = draws.below(1 << n);
-    Settings {
-        n,
-        mask: draws.pick(&[0, all, some, some]),
-        w: draws.pick(&WAITS),
-    }
+    let mask = draws.pick(&[0, all, some, some]);
+    Settings::new(n, mask, draws.pick(&WAITS))
 }
 
 /// What befalls one step of a run, besides the conditions of the sections.
@@ -361,11 +359,7 @@ mod tests {
     /// follows a fail.
     #[test]
     fn what_lasts_is_the_same_in_each_step() {
-        let settings = Settings {
-            n: 2,
-            mask: 0,
-            w: 2,
-        };
+        let settings = Settings::new(2, 0, 2);
         let mut draws = Draws::from_seed(SEED);
         let mut run = Run::new(&mut draws, COMMON, settings);
         let sent = |rows: Vec<Row>| rows.iter().map(|row| row[2]).collect::<Vec<u8>>();

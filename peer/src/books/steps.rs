@@ -1,8 +1,9 @@
 //! Short captures whose last step sends every K1 there is.
 
-use super::capture::{row, Capture, Settings};
+use super::capture::{row, Capture};
 use super::pairs::{IDLE, UNUSABLE};
 use crate::judge::Row;
+use crate::settings::Settings;
 
 /// Steps before the last one, and the pair that is received in it.
 type Start = (&'static [Row], [u8; 2]);
@@ -33,7 +34,7 @@ pub fn captures() -> Vec<Capture> {
 }
 
 fn captures_of(n: u8) -> impl Iterator<Item = Capture> {
-    let settings = Settings { n, mask: 0, w: 1 };
+    let settings = Settings::new(n, 0, 1);
     STARTS
         .into_iter()
         .flat_map(|(start, k2s)| k2s.iter().map(move |&k2| (start, k2)))

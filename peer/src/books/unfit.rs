@@ -1,10 +1,11 @@
 //! Books that are refused for the settings of an entry, alone and with another
-//! fault, and books whose settings just fit (paper: 02, f).
+//! fault, and books whose settings just fit (paper: 02, f and g).
 
 use super::capture::{bind, Capture};
 use super::runs::{self, COMMON};
 use crate::book::{contents_bytes, ENTRY_BYTES, MOST_BYTES};
 use crate::draws::Draws;
+use crate::settings::Settings;
 
 /// The captures of a book that is to be refused.
 const CAPTURES: usize = 5;
@@ -13,6 +14,7 @@ const ENTRIES: [usize; 3] = [0, 2, 4];
 /// An entry and the next: at the start, in the middle and at the end.
 const NEIGHBOURS: [[usize; 2]; 3] = [[0, 1], [2, 3], [3, 4]];
 
+const OPTIONS: u8 = 25;
 const SECTIONS: u8 = 31;
 const MASK: u8 = 32;
 
@@ -24,15 +26,16 @@ type Fault<T> = (u8, fn(&mut T));
 
 /// What an entry can have wrong, in the order in which it is asked for.
 const OF_AN_ENTRY: [Fault<[u8]>; 5] = [
-    (25, |entry| entry[1] = 1),
     OF_SETTINGS[0],
     OF_SETTINGS[1],
+    OF_SETTINGS[2],
     (26, |entry| entry[9] ^= 1),
     (27, |entry| entry[10..12].fill(0xFF)),
 ];
 
 /// Faults whatever else the settings are.
-const OF_SETTINGS: [Fault<[u8]>; 2] = [
+const OF_SETTINGS: [Fault<[u8]>; 3] = [
+    (OPTIONS, |entry| entry[1] = 2),
     (SECTIONS, |entry| entry[0] = 0),
     (MASK, |entry| entry[2] |= 0x80),
 ];
@@ -73,11 +76,12 @@ fn entry_mut(book: &mut [u8], entry: usize) -> &mut [u8] {
 
 /// Every sort of unfit settings, in each of the entries.
 fn with_unfit_settings(book: &[u8]) -> Vec<Refused> {
-    let with = |entry, (refusal, n, mask): (u8, u8, u16)| {
+    let with = |entry, (refusal, settings): (u8, Settings)| {
         let mut book = book.to_vec();
         let fields = entry_mut(&mut book, entry);
-        fields[0] = n;
-        fields[2..4].copy_from_slice(&mask.to_be_bytes());
+        fields[0] = settings.n;
+        fields[1] = settings.options;
+        fields[2..4].copy_from_slice(&settings.mask.to_be_bytes());
         (refusal, book)
     };
     ENTRIES
@@ -87,13 +91,30 @@ fn with_unfit_settings(book: &[u8]) -> Vec<Refused> {
 }
 
 /// n on both sides of its bounds, whatever the mask is; and for every good n its
-/// first bit too many, the last, and all of them.
-fn unfit() -> impl Iterator<Item = (u8, u8, u16)> {
+/// first bit too many, the last, and all of them. These with hold and without; and with
+/// options that there are not, some of them and what fits.
+fn unfit() -> impl Iterator<Item = (u8, Settings)> {
     let sections = [0, 15, 16, 255]
         .into_iter()
         .flat_map(|n| [0, 0xFFFF].map(|mask| (SECTIONS, n, mask)));
     let masks = (1..=14).flat_map(|n| [1 << n, 0x8000, 0xFFFF].map(|mask| (MASK, n, mask)));
-    sections.chain(masks)
+    let others = sections.chain(masks).flat_map(|(refusal, n, mask)| {
+        let settings = Settings::new(n, mask, 0);
+        [settings, settings.with_hold()].map(|settings| (refusal, settings))
+    });
+    let unknown = [2, 3, 128, 255].into_iter().flat_map(|options| {
+        [(2, 3), (14, 0), (0, 0), (15, 0), (1, 2)].map(|(n, mask)| {
+            let settings = Settings::new(n, mask, 0);
+            (
+                OPTIONS,
+                Settings {
+                    options,
+                    ..settings
+                },
+            )
+        })
+    });
+    others.chain(unknown)
 }
 
 /// Two faults in one entry, or one in each of two, where one at least is of the
@@ -114,7 +135,7 @@ fn with_two_faults(book: &[u8], entries: [usize; 2]) -> Vec<Refused> {
 }
 
 fn is_of_settings((refusal, _): Fault<[u8]>) -> bool {
-    [SECTIONS, MASK].contains(&refusal)
+    [OPTIONS, SECTIONS, MASK].contains(&refusal)
 }
 
 fn with_faults(book: &[u8], pair: [&(usize, Fault<[u8]>); 2]) -> Refused {
@@ -151,19 +172,24 @@ fn with_fault(book: &[u8], (refusal, put): Fault<Vec<u8>>) -> Refused {
 fn of_fitting(draws: &mut Draws) -> Vec<Vec<u8>> {
     let captures: Vec<Capture> = fitting()
         .flat_map(|settings| [0, 1, 3].map(|steps| (settings, steps)))
-        .map(|((n, mask), steps)| {
+        .map(|(settings, steps)| {
             let mut capture = runs::draw_of_any_settings(draws, COMMON, steps);
-            capture.settings.n = n;
-            capture.settings.mask = mask;
+            let w = capture.settings.w;
+            capture.settings = Settings { w, ..settings };
             capture
         })
         .collect();
     bind(&captures)
 }
 
-/// Every n, with no bit of the mask, its last, and all that it can have.
-fn fitting() -> impl Iterator<Item = (u8, u16)> {
-    (1..=14).flat_map(|n| [0, 1 << (n - 1), (1 << n) - 1].map(|mask| (n, mask)))
+/// Every n, with no bit of the mask, its last, and all that it can have, with hold and
+/// without.
+fn fitting() -> impl Iterator<Item = Settings> {
+    let masks = (1..=14).flat_map(|n| [0, 1 << (n - 1), (1 << n) - 1].map(|mask| (n, mask)));
+    masks.flat_map(|(n, mask)| {
+        let settings = Settings::new(n, mask, 0);
+        [settings, settings.with_hold()]
+    })
 }
 
 #[cfg(test)]
@@ -194,17 +220,17 @@ mod tests {
     fn unfit_settings_stop_the_book_in_every_entry() {
         assert_eq!(refusal_of(&book()), None);
         let refused = with_unfit_settings(&book());
-        assert_eq!(refused.len(), 3 * (4 * 2 + 14 * 3));
+        assert_eq!(refused.len(), 3 * (2 * (4 * 2 + 14 * 3) + 4 * 5));
         assert_refused(&refused);
     }
 
-    /// By hand: five faults in each of two entries make 45 pairs, and the three of
-    /// each that are not of settings make 15 among themselves.
+    /// By hand: five faults in each of two entries make 45 pairs, and the two of each
+    /// that are not of settings make 6 among themselves.
     #[test]
     fn of_two_faults_the_first_in_order_is_refused() {
         for neighbours in NEIGHBOURS {
             let refused = with_two_faults(&book(), neighbours);
-            assert_eq!(refused.len(), 45 - 15);
+            assert_eq!(refused.len(), 45 - 6);
             assert_refused(&refused);
         }
     }
@@ -213,7 +239,10 @@ mod tests {
     #[test]
     fn pairs_of_faults_by_hand() {
         for (first, second, refusal) in [
-            ((0, 1, 1), (0, 0, 0), 25),
+            ((0, 1, 2), (0, 0, 0), 25),
+            ((0, 1, 1), (0, 0, 0), 31),
+            ((0, 1, 255), (0, 9, 0), 25),
+            ((0, 9, 0), (1, 1, 2), 26),
             ((0, 0, 0), (0, 2, 0x80), 31),
             ((0, 0, 0), (0, 9, 0), 31),
             ((0, 2, 0x80), (0, 9, 0), 32),
@@ -221,7 +250,7 @@ mod tests {
             ((0, 10, 0xFF), (1, 0, 0), 27),
             ((0, 9, 0), (1, 0, 0), 26),
             ((0, 2, 0x80), (1, 0, 0), 32),
-            ((0, 0, 0), (1, 1, 1), 31),
+            ((0, 0, 0), (1, 1, 2), 31),
         ] {
             let mut book = book();
             for (entry, field, value) in [first, second] {
@@ -234,12 +263,12 @@ mod tests {
     #[test]
     fn other_faults_come_before_the_entries_or_behind_them() {
         let refused = with_another_fault(&book());
-        assert_eq!(refused.len(), 3 * 2 * 6);
+        assert_eq!(refused.len(), 3 * 3 * 6);
         for (refusal, book) in &refused {
             assert_eq!(refusal_of(book), Some(*refusal));
         }
         let refusals: BTreeSet<u8> = refused.iter().map(|(refusal, _)| *refusal).collect();
-        assert!(refusals.into_iter().eq([20, 21, 22, 23, 24, 31, 32]));
+        assert!(refusals.into_iter().eq([20, 21, 22, 23, 24, 25, 31, 32]));
     }
 
     #[test]
@@ -252,12 +281,12 @@ mod tests {
             };
             captures += lines.len();
         }
-        assert_eq!(captures, 14 * 3 * 3);
+        assert_eq!(captures, 14 * 3 * 2 * 3);
     }
 
     #[test]
     fn the_books_are_some_hundreds() {
         let books = books(&mut Draws::from_seed(1)).len();
-        assert!((200..400).contains(&books), "{books}");
+        assert!((400..700).contains(&books), "{books}");
     }
 }

@@ -1,12 +1,13 @@
 //! Captures of waits (paper: "One step", rule 3): as long as they may be, longer,
 //! broken off, started anew, and where none can be.
 
-use super::capture::{row, Capture, Settings, Told};
+use super::capture::{row, Capture, Told};
 use super::pairs::{alarmed, degrade, fail, said, FAILED, IDLE, LOCKOUT};
 use super::runs;
 use crate::draws::Draws;
 use crate::judge::Row;
 use crate::pair::Request;
+use crate::settings::Settings;
 
 const SIZES: [u8; 4] = [1, 2, 3, 14];
 const WAITS: [u16; 5] = [0, 1, 2, 3, 6];
@@ -85,7 +86,7 @@ impl Section {
         let high = (u16::from(n) + w) % 2 == 1;
         let mask = u16::from(high) << (n - 1);
         Self {
-            settings: Settings { n, mask, w },
+            settings: Settings::new(n, mask, w),
             channel: n,
             high,
         }
@@ -214,10 +215,12 @@ mod tests {
     #[test]
     fn the_judge_finds_what_is_known_of_each_wait() {
         for told in told() {
-            let Capture { settings, rows } = &told.capture;
-            let shown = &rows[..rows.len().min(20)];
-            let verdict = told.capture.judged();
-            assert_eq!(verdict, told.verdict(), "{settings:?} {shown:02X?}");
+            for capture in told.capture.both_ways() {
+                let Capture { settings, rows } = &capture;
+                let shown = &rows[..rows.len().min(20)];
+                let verdict = capture.judged();
+                assert_eq!(verdict, told.verdict(), "{settings:?} {shown:02X?}");
+            }
         }
     }
 

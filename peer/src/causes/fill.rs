@@ -6,6 +6,11 @@
 //! section. LO, FS and MS are the command, unless it was held. All else takes nothing but
 //! that nobody speaks louder, so what is held, or a wait, is cleared where it would.
 //!
+//! With hold a command that is outranked is kept, and may speak up later (paper: 02, g).
+//! So it is cleared in the first step that sends something else: then none waits unseen,
+//! and all goes on as without hold. There is room for the clear in that step, which is
+//! given nothing else; and behind a command there is no wait that it would end.
+//!
 //! One thing stays open: whether section 0 failed under LO. No step shows that but a
 //! later one, which the accepted pair explains, or 00 08 in its place, but not both.
 
@@ -13,9 +18,10 @@ use crate::controller::Record;
 use crate::judge::scan::{can_be_failed, is_alarm, scan, worth, Heard, WORTH};
 use crate::judge::{admit, Row, Verdict};
 use crate::pair::Request;
+use crate::settings::{Settings, HOLD};
 use std::hint::select_unpredictable as choose;
 
-/// Refusal 11. The four before it are those of the judge.
+/// Refusal 11. Those before it are those of the judge.
 const SHORT_TABLE: u8 = 11;
 
 /// In a word of conditions, above those of every section: before the step the pair that
@@ -88,17 +94,15 @@ const fn told(k1: u8) -> Told {
 }
 
 /// The verdict on a capture, or the paper's number for its refusal. The order of the
-/// checks is 1, 2, 8, 9, 11, and nothing is written but by a capture that is explained:
-/// then the words of its steps, and none behind them.
+/// checks is that of the judge, and then 11. Nothing is written but by a capture that is
+/// explained: then the words of its steps, and none behind them.
 pub fn fill(
-    n: u8,
-    mask: u16,
-    wait: u16,
+    settings: Settings,
     capture: &[u8],
     conditions: &mut [u32],
     commands: &mut [u16],
 ) -> Result<Verdict, u8> {
-    let (start, rows) = admit(n, mask, wait, capture)?;
+    let (start, rows) = admit(settings, capture)?;
     let conditions = conditions.get_mut(..rows.len()).ok_or(SHORT_TABLE)?;
     let commands = commands.get_mut(..rows.len()).ok_or(SHORT_TABLE)?;
     let verdict = scan(start, rows);
@@ -117,6 +121,7 @@ pub fn fill(
 fn put_down(start: Record, rows: &[Row], conditions: &mut [u32], commands: &mut [u16]) -> bool {
     let mut heard = Heard::new(start);
     let mut wait = 0u16;
+    let holds = start.options == HOLD;
     let (mut last, mut before) = (SENT_BEFORE, TOLD[usize::from(SENT_BEFORE)]);
     for ((&row, conditions), command) in rows.iter().zip(conditions).zip(commands) {
         let [k1, k2, sent, sent_k2] = row;
@@ -129,10 +134,12 @@ fn put_down(start: Record, rows: &[Row], conditions: &mut [u32], commands: &mut 
         // What is answered has to be better than what goes on here. Anything else has
         // only to be no worse.
         let answered = WORTH[usize::from(heard.k1)].wrapping_sub(1);
-        let lasts = (before.command != NO_COMMAND) | (wait > 0);
+        let held = before.command != NO_COMMAND;
+        let lasts = held | (wait > 0);
         let louder = lasts & (before.lasting > choose(answers, answered, told.worth));
+        let outranked = holds & held & (told.command == NO_COMMAND);
         let given = choose(sent == last, NO_COMMAND, told.command);
-        *command = choose(louder, CLEAR, given);
+        *command = choose(louder | outranked, CLEAR, given);
         let waited = choose(sent >> 4 == WAIT, wait.wrapping_sub(1), 0);
         wait = choose(told.conditions != 0, start.w, waited);
         (last, before) = (sent, told);

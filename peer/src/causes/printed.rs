@@ -4,7 +4,7 @@
 use super::line::{Line, Step};
 use super::table::Table;
 use super::Fault;
-use crate::book::{self, Contents, Entry};
+use crate::book::{self, Contents};
 use crate::books;
 use crate::controller::{self, Record};
 use crate::programs::{Comparison, Difference, Kind, Lines, Reading};
@@ -74,8 +74,7 @@ impl Replay {
 
     fn step(&mut self, capture: usize, step: &Step) -> Result<(), Fault> {
         if step.number == 0 {
-            let Entry { n, mask, w, .. } = self.contents.places[capture];
-            let fresh = controller::fresh(n, mask, w);
+            let fresh = controller::fresh(self.contents.places[capture].settings());
             self.reached = Some(fresh.expect("settings that were read"));
         }
         let Some(before) = self.reached.take() else {

@@ -1,4 +1,5 @@
 use super::*;
+use crate::settings::Settings;
 
 /// The first capture of the paper's book, with n = 2, mask 0 and W = 3.
 const ROWS: [Row; 3] = [
@@ -8,7 +9,7 @@ const ROWS: [Row; 3] = [
 ];
 
 fn start() -> Record {
-    controller::fresh(2, 0, 3).expect("settings within the paper's bounds")
+    Settings::new(2, 0, 3).fresh()
 }
 
 fn cause(conditions: &[u8], command: u8, channel: u8) -> Cause {
@@ -57,7 +58,7 @@ fn conditions_have_no_bits_above_the_last_section() {
 
 /// What a single step with those words comes to, in which NR is sent.
 fn replayed(n: u8, conditions: u32, command: u16) -> Result<(), Fault> {
-    let start = controller::fresh(n, 0, 3).expect("settings within the paper's bounds");
+    let start = Settings::new(n, 0, 3).fresh();
     let row = [0x00, 0x08, 0x00, 0x08];
     let replayed = replay(start, &[row], &[conditions], &[command]);
     replayed.map_err(|(_, fault)| fault)

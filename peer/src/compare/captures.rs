@@ -1,19 +1,23 @@
 //! The judge: runs, of which in a third most rows repeat the row before, changed runs, rows
 //! of any bytes, and captures that are refused. The library is compared with the judge of
 //! one scan on all of them, and that one with the judge by brute force where this is
-//! affordable.
+//! affordable. Each capture is put to the library with hold and without, which is to make
+//! no difference (02, g).
 
 use super::lent::{Lent, LentSlice, Memory, Part};
-use super::tally::{both, Tally};
+use super::options;
+use super::tally::{Caller, Tally};
 use super::Due;
 use crate::book::{MOST_BYTES, STEP_BYTES};
-use crate::books::capture::{has_alarm, Capture, Settings};
+use crate::books::capture::{has_alarm, Capture};
+use crate::books::held::bring_back;
 use crate::books::repeats::{self, go_back, most_repeat, wait_on};
-use crate::books::runs::{self, COMMON, LOCKED};
+use crate::books::runs::{self, Habit, COMMON, LOCKED};
 use crate::books::{changes, pairs};
 use crate::door::{verdict_bytes, Door, VERDICT};
 use crate::draws::{Bits, Draws};
 use crate::judge::{judge, Row};
+use crate::settings::{Settings, HOLD};
 
 pub const PARTS: usize = 200;
 const CAPTURES: usize = 1_000;
@@ -35,7 +39,7 @@ const ONCE_IN_LARGER: u32 = 20;
 
 /// The first are in the order of the verdicts. Most rows repeat in a third of the captures
 /// that are not refused.
-pub const KINDS: [Due; 14] = [
+pub const KINDS: [Due; 18] = [
     ("refused", 1),
     ("explained", 1),
     ("unexplained", 1),
@@ -50,6 +54,10 @@ pub const KINDS: [Due; 14] = [
     ("most rows repeat, with runs of WTR", 5_000),
     ("most rows repeat, of 16,384 steps", 50),
     ("unexplained in a run of WTR", 500),
+    ("hold, by brute force too", 10_000),
+    ("hold, by brute force too, a command comes back", 2_000),
+    ("hold, by brute force too, unexplained", 3_000),
+    ("other options", 1_000),
 ];
 const EXPLAINED: u8 = 1;
 const UNEXPLAINED: u8 = 2;
@@ -64,6 +72,10 @@ const REPEATING_WITH_CHANGES_BACK: usize = 10;
 const REPEATING_WITH_WAITS: usize = 11;
 const REPEATING_LONG: usize = 12;
 const UNEXPLAINED_IN_A_WAIT: usize = 13;
+const HOLD_BY_BRUTE_FORCE: usize = 14;
+const HOLD_WITH_A_COMMAND_BACK: usize = 15;
+const HOLD_UNEXPLAINED: usize = 16;
+const OTHER_OPTIONS: usize = 17;
 
 #[derive(Clone, PartialEq)]
 struct JudgeMemory {
@@ -78,46 +90,74 @@ impl Memory for JudgeMemory {
 }
 
 pub fn compare(library: &dyn Door, part: usize) -> Tally {
-    let mut bits = Bits::from_seeds(7, part);
-    let mut draws = bits.draws();
-    let mut tally = Tally::default();
+    let mut caller = Caller::new(library, 7, part);
+    let mut draws = caller.bits.draws();
     for number in 0..CAPTURES {
         let (settings, capture) = match number {
-            0 => draw_long(&mut bits, &mut draws),
-            _ => draw(&mut bits, &mut draws),
+            0 => draw_long(&mut caller.bits, &mut draws),
+            _ => draw(&mut caller.bits, &mut draws),
         };
-        compare_one(library, &mut bits, settings, &capture, &mut tally);
+        caller.judge_both_ways(settings, &capture);
     }
-    tally
+    caller.tally
 }
 
-fn compare_one(
-    library: &dyn Door,
-    bits: &mut Bits,
-    settings: Settings,
-    capture: &[u8],
-    tally: &mut Tally,
-) {
-    let Settings { n, mask, w } = settings;
-    let memory = JudgeMemory {
-        capture: LentSlice::new(bits, capture),
-        out: Lent::drawn(bits),
-    };
-    let both = both(library, &memory, |door, memory| {
-        door.judge(n, mask, w, memory.capture.bytes(), &mut memory.out.bytes)
-    });
-    let given = || format!("n {n}, mask {mask:04X}, W {w}, {} bytes", capture.len());
-    tally.add(&both, given);
-    let judged = (both.peer.refusal, both.peer.memory.out.bytes);
-    let steps = capture.len() / STEP_BYTES;
-    let tried = is_affordable(n, steps) || (steps <= MOST_STEPS && bits.once_in(ONCE_IN_LARGER));
-    count(judged.1, tried, capture, tally);
-    if tried {
-        let tried = verdict_bytes(judge(n, mask, w, capture));
-        if tried != judged {
-            tally.differ(|| format!("{}: brute force {tried:?}, scan {judged:?}", given()));
+/// A refusal, and what stands in the output.
+type Judged = (u8, [u8; VERDICT]);
+
+impl Caller<'_> {
+    /// Counted by what is answered with the given settings.
+    fn judge_both_ways(&mut self, settings: Settings, capture: &[u8]) {
+        let [theirs, judged] = self.judge(settings, capture);
+        if settings.options <= HOLD {
+            let options = settings.options ^ HOLD;
+            let [other, _] = self.judge(
+                Settings {
+                    options,
+                    ..settings
+                },
+                capture,
+            );
+            self.hold(other, theirs, || given(settings, capture));
+        }
+        let tried = self.is_tried(settings.n, capture);
+        count(settings, judged.1, tried, capture, &mut self.tally);
+        if tried {
+            let tried = verdict_bytes(judge(settings, capture));
+            if tried != judged {
+                let given = given(settings, capture);
+                let told = || format!("{given}: brute force {tried:?}, scan {judged:?}");
+                self.tally.differ(told);
+            }
         }
     }
+
+    /// What the library answers, and what this reading does.
+    fn judge(&mut self, settings: Settings, capture: &[u8]) -> [Judged; 2] {
+        let memory = JudgeMemory {
+            capture: LentSlice::new(&mut self.bits, capture),
+            out: Lent::drawn(&mut self.bits),
+        };
+        let both = self.call(
+            &memory,
+            |door, memory| {
+                let JudgeMemory { capture, out } = memory;
+                door.judge(settings, capture.bytes(), &mut out.bytes)
+            },
+            || given(settings, capture),
+        );
+        [both.library, both.peer].map(|side| (side.refusal, side.memory.out.bytes))
+    }
+
+    /// By brute force as well.
+    fn is_tried(&mut self, n: u8, capture: &[u8]) -> bool {
+        let steps = capture.len() / STEP_BYTES;
+        is_affordable(n, steps) || (steps <= MOST_STEPS && self.bits.once_in(ONCE_IN_LARGER))
+    }
+}
+
+fn given(settings: Settings, capture: &[u8]) -> String {
+    format!("{settings}, {} bytes", capture.len())
 }
 
 /// For the judge by brute force.
@@ -131,7 +171,13 @@ fn is_affordable(n: u8, steps: usize) -> bool {
 }
 
 /// What a verdict is on, and whether it was found by brute force too.
-fn count([verdict, high, low]: [u8; VERDICT], tried: bool, capture: &[u8], tally: &mut Tally) {
+fn count(
+    settings: Settings,
+    [verdict, high, low]: [u8; VERDICT],
+    tried: bool,
+    capture: &[u8],
+    tally: &mut Tally,
+) {
     let (rows, _) = capture.as_chunks();
     let step = usize::from(u16::from_be_bytes([high, low]));
     let [explained, unexplained] = [EXPLAINED, UNEXPLAINED].map(|kind| kind == verdict);
@@ -155,6 +201,26 @@ fn count([verdict, high, low]: [u8; VERDICT], tried: bool, capture: &[u8], tally
         (REPEATING_LONG, repeating && long),
         (UNEXPLAINED_IN_A_WAIT, wait_on(last_two(wrong))),
     ]);
+    count_hold(settings, tried, [explained, unexplained], rows, tally);
+}
+
+fn count_hold(
+    settings: Settings,
+    tried: bool,
+    [explained, unexplained]: [bool; 2],
+    rows: &[Row],
+    tally: &mut Tally,
+) {
+    let holding = tried && settings.options == HOLD && (explained || unexplained);
+    tally.count_those([
+        (HOLD_BY_BRUTE_FORCE, holding),
+        (
+            HOLD_WITH_A_COMMAND_BACK,
+            holding && explained && bring_back(rows),
+        ),
+        (HOLD_UNEXPLAINED, holding && unexplained),
+        (OTHER_OPTIONS, settings.options > HOLD),
+    ]);
 }
 
 fn last_two(rows: &[Row]) -> &[Row] {
@@ -171,15 +237,26 @@ fn draw(bits: &mut Bits, draws: &mut Draws) -> (Settings, Vec<u8>) {
     flat(run)
 }
 
-/// Where most rows repeat there are now and then more steps.
+/// Where most rows repeat there are now and then more steps. Whichever end made it, it is
+/// put down with hold or without.
 pub fn draw_run(bits: &mut Bits, draws: &mut Draws) -> Capture {
     let steps = bits.place(SHORT_BELOW);
-    if bits.below(16) < REPEATING {
+    let mut run = if bits.below(16) < REPEATING {
         let steps = bits.pick(&[steps, MOST_STEPS - steps % 10, 3 * steps]);
-        return repeats::draw(draws, steps);
-    }
-    let habit = bits.pick(&[COMMON, COMMON, LOCKED]).with_alarms();
-    runs::draw_of_any_settings(draws, habit, steps)
+        repeats::draw(draws, steps)
+    } else {
+        let habit = bits.pick(&[COMMON, COMMON, LOCKED]).with_alarms();
+        draw_of_any_end(bits, draws, habit, steps)
+    };
+    run.settings.options = options::draw(bits);
+    run
+}
+
+/// A run of an end with hold, or of one without.
+pub fn draw_of_any_end(bits: &mut Bits, draws: &mut Draws, habit: Habit, steps: usize) -> Capture {
+    let settings = runs::draw_settings(draws);
+    let settings = bits.pick(&[settings, settings.with_hold()]);
+    runs::draw(draws, habit, settings, steps)
 }
 
 /// How many sorts of alterations there are, some of them under several numbers.
@@ -234,14 +311,15 @@ fn draw_settings(bits: &mut Bits, settings: Settings) -> Settings {
     }
 }
 
-/// With one of the four faults a capture can have, or several.
+/// With one of the five faults a capture can have, or several.
 fn draw_refused(bits: &mut Bits, run: Capture) -> (Settings, Vec<u8>) {
     let (mut settings, mut capture) = flat(run);
     for _ in 0..=bits.below(2) {
-        match bits.below(20) {
+        match bits.below(24) {
             0..6 => settings.n = bits.byte(),
             6..12 => settings.mask = bits.draw() as u16,
-            12..19 => capture.resize(capture.len() + 1 + bits.place(3), 0x08),
+            12..16 => settings.options = options::draw_other(bits),
+            16..23 => capture.resize(capture.len() + 1 + bits.place(3), 0x08),
             _ => capture.resize(MOST_BYTES + bits.place(10), 0x08),
         }
     }
@@ -253,8 +331,9 @@ fn draw_long(bits: &mut Bits, draws: &mut Draws) -> (Settings, Vec<u8>) {
     let mut run = if bits.below(16) < REPEATING {
         repeats::draw(draws, LONGEST)
     } else {
-        runs::draw_of_any_settings(draws, COMMON.with_alarms(), LONGEST)
+        draw_of_any_end(bits, draws, COMMON.with_alarms(), LONGEST)
     };
+    run.settings.options = options::draw(bits);
     // Waits are now and then too short for that.
     if run.rows.len() == LONGEST && bits.once_in(2) {
         let last = bits.pick(&[1, 10, LONGEST]);

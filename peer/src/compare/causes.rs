@@ -11,20 +11,20 @@ use super::faults::{present, NOT_WHOLE_STEPS, TOO_LONG};
 use super::lent::{Lent, LentList, LentSlice, Memory, Part};
 use super::tally::{hex, Answer, Both, Caller};
 use crate::book::{MOST_BYTES, STEP_BYTES};
-use crate::books::capture::Settings;
 use crate::causes::replay;
 use crate::door::{Door, Tables, VERDICT};
 use crate::draws::Bits;
 use crate::judge::Row;
-use crate::settings::{self, Unfit};
+use crate::settings::{self, Settings, Unfit, HOLD};
 pub use drawn::{drawn, of_books, BOOK_PARTS, DRAWN_PARTS};
 pub use kinds::{BOOK_KINDS, DRAWN_KINDS};
 pub use rooms::{refused, REFUSED_KINDS, REFUSED_PARTS};
 
 const SHORT_TABLE: u8 = 11;
+const OTHER_OPTIONS: u8 = 25;
 
 /// The refusals in the order in which they are asked for.
-const ORDER: [u8; 5] = [1, 2, NOT_WHOLE_STEPS, TOO_LONG, SHORT_TABLE];
+const ORDER: [u8; 6] = [OTHER_OPTIONS, 1, 2, NOT_WHOLE_STEPS, TOO_LONG, SHORT_TABLE];
 
 /// What the verdict begins with where a capture is explained.
 const EXPLAINED: u8 = 1;
@@ -76,19 +76,12 @@ impl CausesMemory {
     }
 
     fn call(&mut self, door: &dyn Door, settings: Settings) -> u8 {
-        let Settings { n, mask, w } = settings;
         let tables = Tables {
             conditions: self.conditions.entries_mut(),
             commands: self.commands.entries_mut(),
         };
-        door.causes(
-            n,
-            mask,
-            w,
-            self.capture.bytes(),
-            tables,
-            &mut self.out.bytes,
-        )
+        let capture = self.capture.bytes();
+        door.causes(settings, capture, tables, &mut self.out.bytes)
     }
 
     /// Takes the words of the first steps out of the tables, where what was lent stands
@@ -151,9 +144,8 @@ impl Caller<'_> {
     /// The verdict of the library is that of its judge, but where a table is short. And
     /// what is refused here, and what is left alone, is what the paper says.
     fn hold_answers(&mut self, given: &Given, lent: &CausesMemory, both: &Both<CausesMemory>) {
-        let Settings { n, mask, w } = given.settings;
         let mut out = [0; VERDICT];
-        let refusal = self.library.judge(n, mask, w, &given.capture, &mut out);
+        let refusal = self.library.judge(given.settings, &given.capture, &mut out);
         let judged = match refusal {
             0 if given.is_short() => (SHORT_TABLE, [0; VERDICT]),
             _ => (refusal, out),
@@ -201,9 +193,12 @@ impl Given {
     /// Each that applies, whatever others do. A mask has a bit at n or above also where no
     /// group has as many sections.
     fn faults(&self) -> Vec<u8> {
-        let Settings { n, mask, .. } = self.settings;
+        let Settings {
+            n, options, mask, ..
+        } = self.settings;
         let length = self.capture.len();
         let applies = [
+            options > HOLD,
             settings::check(n, 0) == Err(Unfit::Sections),
             u32::from(mask) >> n.min(16) != 0,
             !length.is_multiple_of(STEP_BYTES),
@@ -214,11 +209,10 @@ impl Given {
     }
 
     fn told(&self) -> String {
-        let Settings { n, mask, w } = self.settings;
         let (bytes, [conditions, commands]) = (self.capture.len(), self.rooms);
         format!(
-            "n {n}, mask {mask:04X}, W {w}, {bytes} bytes, \
-             words for conditions {conditions}, for commands {commands}"
+            "{}, {bytes} bytes, words for conditions {conditions}, for commands {commands}",
+            self.settings
         )
     }
 }

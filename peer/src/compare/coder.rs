@@ -2,9 +2,11 @@
 //! inputs or as many as can be.
 
 use super::lent::Lent;
+use super::options;
 use super::tally::{both, Caller, Tally};
 use crate::door::{Door, DECODED, ENCODED, RECORD};
 use crate::draws::Bits;
+use crate::settings::Settings;
 
 /// The sizes of a group at the bounds, on both sides of them.
 const SIZES: [u8; 6] = [0, 1, 2, 13, 14, 15];
@@ -18,20 +20,37 @@ pub const DECODED_KINDS: [&str; 7] = [
 ];
 const ALARM: usize = 6;
 
-/// Every mask for the size of the part, with a drawn wait.
+/// Every mask for the size of the part, with a drawn wait and drawn options; and every
+/// options, with masks on both sides of their bound.
 pub fn fresh(library: &dyn Door, part: usize) -> Tally {
-    let mut bits = Bits::from_seeds(1, part);
-    let mut tally = Tally::default();
+    let mut caller = Caller::new(library, 1, part);
     let n = part as u8;
     for mask in 0..=u16::MAX {
-        let wait = bits.draw() as u16;
-        let memory = Lent::<RECORD>::drawn(&mut bits);
-        let both = both(library, &memory, |door, memory| {
-            door.fresh(n, mask, wait, &mut memory.bytes)
-        });
-        tally.add(&both, || format!("n {n}, mask {mask:04X}, W {wait}"));
+        let options = options::draw_any(&mut caller.bits, 8);
+        fresh_one(&mut caller, n, options, mask);
     }
-    tally
+    for options in 0..=u8::MAX {
+        for mask in [0, 1, 1 << (n % 16), u16::MAX] {
+            fresh_one(&mut caller, n, options, mask);
+        }
+    }
+    caller.tally
+}
+
+fn fresh_one(caller: &mut Caller, n: u8, options: u8, mask: u16) {
+    let settings = Settings {
+        n,
+        options,
+        mask,
+        w: caller.bits.draw() as u16,
+    };
+    let memory = Lent::<RECORD>::drawn(&mut caller.bits);
+    caller.call(
+        &memory,
+        |door, memory| door.fresh(settings, &mut memory.bytes),
+        || settings.to_string(),
+    );
+    options::count(&mut caller.tally, 0, options);
 }
 
 /// Every pair for the size of the part.

@@ -1,10 +1,11 @@
 //! Books for the reader and orders for the writer, drawn and damaged.
 
+use super::options;
 use crate::book::{contents_bytes, ENTRY_BYTES, MOST_BYTES, MOST_ENTRIES, STEP_BYTES};
+#[cfg(test)]
+use crate::book::{Entry, Refusal};
 use crate::door::{Door, Peer, CONTENTS, SIZE};
 use crate::draws::Bits;
-#[cfg(test)]
-use crate::{book::Refusal, settings};
 
 pub type Contents = [u8; CONTENTS];
 
@@ -49,7 +50,7 @@ pub fn damage_often(bits: &mut Bits, book: &mut Vec<u8>) -> bool {
 fn damage(bits: &mut Bits, book: &mut Vec<u8>) {
     let contents = contents_bytes(book.get(1).copied().unwrap_or_default().into());
     let length = book.len();
-    match bits.below(38) {
+    match bits.below(40) {
         0..5 => set(bits, book, 0..2),
         5..13 => set(bits, book, 2..contents),
         13..19 => set_field(bits, book),
@@ -95,18 +96,20 @@ fn spoil_an_entry(bits: &mut Bits, book: &mut [u8]) {
     }
 }
 
-/// n or the mask, mostly so that it does not fit any more (02, f).
+/// n, the spare byte or the mask, mostly so that it does not fit any more (02, f and g).
 fn spoil_settings(bits: &mut Bits, entry: &mut [u8]) {
     let any = bits.byte();
-    if bits.once_in(2) {
-        entry[N] = bits.pick(&[0, 15, 16, 255, any]);
-        return;
+    match bits.below(6) {
+        0..2 => entry[N] = bits.pick(&[0, 15, 16, 255, any]),
+        2..4 => entry[SPARE] = options::draw_any(bits, 2),
+        _ => {
+            // At n, or anywhere.
+            let bit = bits.pick(&[entry[N] % 16, any % 16]);
+            let [high, low] = (1u16 << bit).to_be_bytes();
+            entry[MASK.start] |= high;
+            entry[MASK.start + 1] |= low;
+        }
     }
-    // At n, or anywhere.
-    let bit = bits.pick(&[entry[N] % 16, any % 16]);
-    let [high, low] = (1u16 << bit).to_be_bytes();
-    entry[MASK.start] |= high;
-    entry[MASK.start + 1] |= low;
 }
 
 pub fn draw_order(bits: &mut Bits) -> Order {
@@ -122,7 +125,7 @@ pub fn draw_order(bits: &mut Bits) -> Order {
 
 fn damage_order(bits: &mut Bits, order: &mut Order) {
     let length = order.bodies.len();
-    match bits.below(21) {
+    match bits.below(26) {
         0..3 => order.contents[0] = bits.byte(),
         3 => order.contents[0] = bits.pick(&[63, 64, 65]),
         4 => order.bodies.truncate(bits.place(length + 1)),
@@ -211,16 +214,16 @@ fn settle(bits: &mut Bits, contents: &mut Contents, place: usize) {
     let mask = bits.draw() as u16 & ((1 << n) - 1);
     let entry = place_mut(contents, place);
     entry[N] = n;
+    entry[SPARE] = options::draw(bits);
     entry[MASK].copy_from_slice(&mask.to_be_bytes());
 }
 
-/// Whether both have the same count and, up to it, the same n, mask, W and steps.
+/// Whether both have the same count and, up to it, the same settings and steps.
 pub fn same_fields(first: &Contents, second: &Contents) -> bool {
     let fields = |contents: &Contents| {
         let count = usize::from(contents[0]);
         let mut seen = contents[..contents.len().min(1 + ENTRY_BYTES * count)].to_vec();
         for row in seen[1..].chunks_mut(ENTRY_BYTES) {
-            row[SPARE] = 0;
             row[OFFSET].fill(0);
         }
         seen
@@ -232,11 +235,12 @@ pub fn same_fields(first: &Contents, second: &Contents) -> bool {
 #[cfg(test)]
 pub fn mend(entries: &mut [u8]) -> Option<u8> {
     let mut first = None;
-    for entry in entries.chunks_exact_mut(ENTRY_BYTES) {
-        let mask = u16::from_be_bytes([entry[MASK.start], entry[MASK.start + 1]]);
-        if let Err(unfit) = settings::check(entry[N], mask) {
+    let (entries, _) = entries.as_chunks_mut();
+    for entry in entries {
+        if let Err(unfit) = Entry::from_bytes(*entry).settings().check() {
             first = first.or(Some(Refusal::from(unfit).number()));
             entry[N] = 1;
+            entry[SPARE] = 0;
             entry[MASK].fill(0);
         }
     }
@@ -278,7 +282,7 @@ mod tests {
             sound += usize::from(!order.damaged);
             refusals.insert(refusal);
         }
-        assert!(refusals.into_iter().eq([0, 20, 23, 29, 30, 31, 32]));
+        assert!(refusals.into_iter().eq([0, 20, 23, 25, 29, 30, 31, 32]));
         assert!((900..1_100).contains(&sound), "{sound}");
     }
 
@@ -296,10 +300,11 @@ mod tests {
                 refusals.insert((before, refusal_of(&book)));
             }
         }
-        let first = [20, 22, 23, 24, 25, 26, 27].map(|refusal| (refusal, refusal));
-        let second = [31, 32].map(|refusal| [0, 25, 26, 27, 28].map(|other| (refusal, other)));
-        let expected = first.iter().chain(second.as_flattened());
-        assert!(refusals.iter().eq(expected), "{refusals:?}");
+        let others = [20, 22, 23, 24, 26, 27].map(|refusal| (refusal, refusal));
+        let settings = [25, 31, 32].map(|refusal| [0, 26, 27, 28].map(|other| (refusal, other)));
+        let expected = others.iter().chain(settings.as_flattened()).copied();
+        let expected: BTreeSet<(u8, u8)> = expected.collect();
+        assert_eq!(refusals, expected);
     }
 
     fn refusal_of(book: &[u8]) -> u8 {
@@ -318,7 +323,7 @@ mod tests {
                 refusals.insert((before, refusal_of_order(&order)));
             }
         }
-        let second = [31, 32].map(|refusal| [0, 20, 29, 30].map(|other| (refusal, other)));
+        let second = [25, 31, 32].map(|refusal| [0, 20, 29, 30].map(|other| (refusal, other)));
         let expected = [(23, 23)].iter().chain(second.as_flattened());
         assert!(refusals.iter().eq(expected), "{refusals:?}");
     }
@@ -350,7 +355,7 @@ mod tests {
         for (byte, same) in [
             (0, false),
             (1, false),
-            (2, true),
+            (2, false),
             (3, false),
             (6, false),
             (7, true),

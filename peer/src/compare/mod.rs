@@ -7,11 +7,13 @@ mod books;
 mod captures;
 mod causes;
 mod coder;
+mod commands;
 mod crew;
 mod drawn_book;
 mod faults;
 mod handed;
 pub mod lent;
+mod options;
 mod report;
 mod spoilt;
 mod steps;
@@ -54,12 +56,12 @@ const fn once<const N: usize>(names: [&'static str; N]) -> [Due; N] {
     due
 }
 
-const SUBJECTS: [Subject; 20] = [
+const SUBJECTS: [Subject; 21] = [
     Subject {
         name: "fresh",
-        least: 1 << 24,
-        refusals: &[0, 1, 2],
-        kinds: &[],
+        least: (1 << 24) + 256 * 256 * 4,
+        refusals: &[0, 1, 2, 25],
+        kinds: &once(options::KINDS),
         parts: coder::PARTS_BY_SIZE,
         compare: coder::fresh,
     },
@@ -104,6 +106,14 @@ const SUBJECTS: [Subject; 20] = [
         compare: steps::drawn,
     },
     Subject {
+        name: "step, every held byte",
+        least: 1_500_000,
+        refusals: &[0, 1, 3],
+        kinds: &steps::HELD_KINDS,
+        parts: steps::HELD_PARTS,
+        compare: steps::held,
+    },
+    Subject {
         name: "step, walks",
         least: 5_000_000,
         refusals: &[0],
@@ -113,8 +123,8 @@ const SUBJECTS: [Subject; 20] = [
     },
     Subject {
         name: "judge",
-        least: 200_000,
-        refusals: &[0, 1, 2, 8, 9],
+        least: 350_000,
+        refusals: &[0, 1, 2, 8, 9, 25],
         kinds: &captures::KINDS,
         parts: captures::PARTS,
         compare: captures::compare,
@@ -138,7 +148,7 @@ const SUBJECTS: [Subject; 20] = [
     Subject {
         name: "causes, refused",
         least: 50_000,
-        refusals: &[0, 1, 2, 8, 9, 11],
+        refusals: &[0, 1, 2, 8, 9, 11, 25],
         kinds: &causes::REFUSED_KINDS,
         parts: causes::REFUSED_PARTS,
         compare: causes::refused,
@@ -194,7 +204,7 @@ const SUBJECTS: [Subject; 20] = [
     Subject {
         name: "write, and read again",
         least: 100_000,
-        refusals: &[0, 20, 23, 29, 30, 31, 32],
+        refusals: &[0, 20, 23, 25, 29, 30, 31, 32],
         kinds: &once(books::WRITE_KINDS),
         parts: books::PARTS,
         compare: books::writings,

@@ -2,13 +2,19 @@
 //! of all cases, so that every refusal of a step comes up.
 
 use super::handed::{Handed, MOST_CONDITIONS};
+use super::options;
 use crate::books::pairs::alarmed;
 use crate::controller::Record;
 use crate::door::{record_bytes, RECORD};
 use crate::draws::Bits;
 use crate::pair::Request;
+use crate::settings::HOLD;
 
-type Drawn = ([u8; RECORD], [u8; MOST_CONDITIONS], Handed);
+pub type Drawn = ([u8; RECORD], [u8; MOST_CONDITIONS], Handed);
+
+/// Where the options and the held command stand in a record.
+pub const OPTIONS: usize = 1;
+pub const HELD: usize = RECORD - 1;
 
 const WAITS: [u16; 8] = [0, 1, 2, 3, 4, 255, 256, 65_535];
 
@@ -23,7 +29,8 @@ pub fn draw(bits: &mut Bits) -> Drawn {
         };
         return (bits.array(), bits.array(), handed);
     }
-    let mut drawn = draw_sound(bits);
+    let n = 1 + bits.byte_below(14);
+    let mut drawn = draw_sound(bits, n);
     // As many as the zeros that the draw ends in: none in half of the cases.
     for _ in 0..bits.draw().trailing_zeros().min(6) {
         spoil(bits, &mut drawn);
@@ -33,8 +40,11 @@ pub fn draw(bits: &mut Bits) -> Drawn {
 
 fn spoil(bits: &mut Bits, (record, conditions, handed): &mut Drawn) {
     match bits.below(8) {
-        // A byte of the record is spoilt as often as all the rest.
-        0..4 => record[bits.place(RECORD)] = bits.byte(),
+        // A byte of the record is spoilt as often as all the rest, and what hold is about
+        // as often as all its other bytes.
+        0..2 => record[bits.place(RECORD)] = bits.byte(),
+        2 => record[OPTIONS] = options::draw_any(bits, 2),
+        3 => record[HELD] = draw_held(bits, 14),
         4 => handed.count = bits.place(MOST_CONDITIONS + 1),
         5 => conditions[bits.place(MOST_CONDITIONS)] = bits.byte(),
         6 => handed.command = bits.byte_below(8),
@@ -42,8 +52,8 @@ fn spoil(bits: &mut Bits, (record, conditions, handed): &mut Drawn) {
     }
 }
 
-fn draw_sound(bits: &mut Bits) -> Drawn {
-    let n = 1 + bits.byte_below(14);
+/// With hold or without.
+pub fn draw_sound(bits: &mut Bits, n: u8) -> Drawn {
     let mask = bits.draw() as u16 & ((1 << n) - 1);
     let record = draw_record(bits, n, mask);
     let received = draw_received(bits, n, mask);
@@ -95,8 +105,10 @@ fn draw_record(bits: &mut Bits, n: u8, mask: u16) -> Record {
     let priorities = bits_of_priorities(mask);
     let [sent, _] = draw_pair(bits, n, priorities);
     let waits = sent >> 4 == Request::WaitToRestore.code() && w > 0;
+    let options = options::draw(bits);
     Record {
         n,
+        options,
         mask,
         w,
         accepted: draw_pair(bits, n, priorities),
@@ -106,7 +118,17 @@ fn draw_record(bits: &mut Bits, n: u8, mask: u16) -> Record {
         } else {
             0
         },
+        held: match options {
+            HOLD => draw_held(bits, n),
+            _ => 0x00,
+        },
     }
+}
+
+/// What a group of so many sections can hold with hold: nothing, or a command of any rank.
+fn draw_held(bits: &mut Bits, n: u8) -> u8 {
+    let section = 1 + bits.byte_below(n);
+    bits.pick(&[0x00, 0xF0, 0xE0 | section, 0x80 | section])
 }
 
 /// Bit c for section c.

@@ -8,11 +8,12 @@ use super::lent::{Lent, LentSlice, Memory, Part};
 use super::tally::{Both, Caller, Tally};
 use super::Due;
 use crate::book::{self, MOST_ENTRIES};
-use crate::books::capture::{bind, has_alarm, Capture, Settings};
+use crate::books::capture::{bind, has_alarm, Capture};
 use crate::books::longest::{self, still, CHARACTERS};
 use crate::books::runs::LONGEST;
 use crate::door::{Door, PAGE};
 use crate::draws::{Bits, Draws};
+use crate::settings::Settings;
 use std::borrow::Cow;
 use std::ops::RangeInclusive;
 
@@ -167,11 +168,7 @@ pub fn numbers(library: &dyn Door, part: usize) -> Tally {
 
 /// A book of one capture, in groups of all sizes by turns.
 fn of_one_still(steps: usize, wrong: bool) -> Vec<u8> {
-    let settings = Settings {
-        n: 1 + (steps % 14) as u8,
-        mask: 0,
-        w: 0,
-    };
+    let settings = Settings::new(1 + (steps % 14) as u8, 0, 0);
     bind(&[still(settings, steps, wrong)]).concat()
 }
 

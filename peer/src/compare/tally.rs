@@ -8,7 +8,7 @@ use std::hint::black_box;
 
 /// One more than the greatest refusal.
 const REFUSALS: usize = 33;
-const MOST_KINDS: usize = 35;
+const MOST_KINDS: usize = 38;
 /// Differences of one part that are told in full.
 const MOST_TOLD: usize = 3;
 /// Bytes of a part of memory that are told.

@@ -1,5 +1,6 @@
 mod books;
 mod causes;
+mod hold;
 mod repeats;
 mod switches;
 pub mod tables;
@@ -11,11 +12,13 @@ use crate::door::{
     Peer, Tables, CHANGE, CHANGES, CONTENTS, DECODED, ENCODED, K1, PAGE, RECORD, SIZE, STEP,
     VERDICT,
 };
+use crate::settings::Settings;
+use handed::Handed;
 use std::io::Write;
 
 /// This reading in the place of the library, with one function that is wrong, with no
-/// notion of alarms, or with another way with repeated rows, with books, with lists, with
-/// causes or with tables.
+/// notion of alarms, or with another way with hold, with repeated rows, with books, with
+/// lists, with causes or with tables.
 pub struct Fake {
     pub wrong: &'static str,
 }
@@ -50,8 +53,8 @@ impl Fake {
 }
 
 impl Door for Fake {
-    fn fresh(&self, n: u8, mask: u16, wait: u16, record: &mut [u8; RECORD]) -> u8 {
-        let refusal = Peer.fresh(n, mask, wait, record);
+    fn fresh(&self, settings: Settings, record: &mut [u8; RECORD]) -> u8 {
+        let refusal = hold::fresh(self.wrong, settings, record);
         self.spoil("fresh", record);
         refusal
     }
@@ -91,14 +94,19 @@ impl Door for Fake {
         channel: u8,
         out: &mut [u8; STEP],
     ) -> u8 {
-        let heard = self.hear(received);
-        let refusal = Peer.step(record, heard, conditions, command, channel, out);
+        let handed = Handed {
+            received: self.hear(received),
+            count: conditions.len(),
+            command,
+            channel,
+        };
+        let refusal = hold::step(self.wrong, record, conditions, handed, out);
         self.spoil("step", out);
         refusal
     }
 
-    fn judge(&self, n: u8, mask: u16, wait: u16, capture: &[u8], out: &mut [u8; VERDICT]) -> u8 {
-        let judge = |capture: &[u8], out: &mut _| Peer.judge(n, mask, wait, capture, out);
+    fn judge(&self, settings: Settings, capture: &[u8], out: &mut [u8; VERDICT]) -> u8 {
+        let judge = |capture: &[u8], out: &mut _| hold::judge(self.wrong, settings, capture, out);
         let refusal = repeats::judge(self.wrong, &self.hear_all(capture), out, &judge);
         self.spoil("judge", out);
         refusal
@@ -106,15 +114,13 @@ impl Door for Fake {
 
     fn causes(
         &self,
-        n: u8,
-        mask: u16,
-        wait: u16,
+        settings: Settings,
         capture: &[u8],
         tables: Tables,
         out: &mut [u8; VERDICT],
     ) -> u8 {
-        let (numbers, heard) = ((n, mask, wait), self.hear_all(capture));
-        let refusal = causes::fill(self.wrong, numbers, &heard, tables, out);
+        let heard = self.hear_all(capture);
+        let refusal = causes::fill(self.wrong, settings, &heard, tables, out);
         self.spoil("causes", out);
         refusal
     }
@@ -232,7 +238,7 @@ fn a_wrong_byte_of_each_function_is_noticed() {
         let tally = part_of(name, &Fake { wrong: name });
         assert!(tally.differences > 0 && !tally.told.is_empty(), "{name}");
     }
-    for subject in ["step, drawn", "step, walks"] {
+    for subject in ["step, drawn", "step, every held byte", "step, walks"] {
         let tally = part_of(subject, &Fake { wrong: "step" });
         assert!(tally.differences > 0 && !tally.told.is_empty(), "{subject}");
     }

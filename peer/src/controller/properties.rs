@@ -1,9 +1,10 @@
-//! What holds of every step in a group of two sections: all records that are not
-//! refused, all conditions and commands, all usable pairs. What is said of ties and of
-//! alarms holds of drawn walks as well, in groups of every size.
+//! What is true of every step in a group of two sections: all records that are not
+//! refused, with hold and without, all conditions and commands, all usable pairs. What is
+//! said of ties, of alarms and of commands is true of drawn walks as well, in groups of
+//! every size.
 
 use super::*;
-use crate::books::pairs::{alarmed, is_alarm};
+use crate::books::pairs::{alarmed, is_alarm, is_command};
 use crate::books::runs::{self, Given, Habit, Run, COMMON, CROWDED};
 use crate::draws::Draws;
 use crate::pair::{decode, rank, Received};
@@ -12,6 +13,7 @@ const N: u8 = 2;
 const W: u16 = 1;
 /// Two sections of one priority, low or high, and section 2 above section 1.
 const MASKS: [u16; 3] = [0, 3, 2];
+const CLEAR: (u8, u8) = (1, 0);
 const COMMANDS: [(u8, u8); 7] = [(0, 0), (1, 0), (2, 0), (3, 1), (3, 2), (4, 1), (4, 2)];
 
 const HABITS: [Habit; 4] = [CROWDED, COMMON, CROWDED.with_alarms(), COMMON.with_alarms()];
@@ -47,6 +49,32 @@ impl<'a> Taken<'a> {
             (3, channel) => Some(0xE0 | channel),
             (4, channel) => Some(0x80 | channel),
             _ => None,
+        }
+    }
+
+    /// The K1 that sends the command which is held before the step.
+    fn held_k1(&self) -> Option<u8> {
+        let Record {
+            options,
+            sent,
+            held,
+            ..
+        } = self.record;
+        match (options, sent >> 4) {
+            (HOLD, _) => Some(held).filter(|&held| held != 0x00),
+            (_, 0x8 | 0xE | 0xF) => Some(sent),
+            _ => None,
+        }
+    }
+
+    /// The K1 that sends the command which is up in the step (rule 2; 02, g).
+    fn up_k1(&self) -> Option<u8> {
+        let held = self.held_k1().filter(|_| self.command != CLEAR);
+        let new = self.command_k1();
+        if new.map(rank_of) > held.map(rank_of) {
+            new
+        } else {
+            held
         }
     }
 
@@ -99,9 +127,21 @@ fn records() -> impl Iterator<Item = Record> {
         .map(|((mask, sent), left)| Record {
             sent,
             left,
-            ..fresh(N, mask, W).unwrap()
+            ..Settings::new(N, mask, W).fresh()
         })
         .filter(|&record| can_be_followed(record))
+        .flat_map(with_all_held)
+}
+
+/// Without hold, and with it and all that can be held.
+fn with_all_held(record: Record) -> impl Iterator<Item = Record> {
+    let holding = (0..=255).map(move |held| Record {
+        options: HOLD,
+        held,
+        ..record
+    });
+    let holding = holding.filter(|&record| can_be_followed(record));
+    std::iter::once(record).chain(holding)
 }
 
 /// Line bits are left out: those of a usable pair bear on nothing but the record.
@@ -126,11 +166,13 @@ fn for_all_steps(mut see: impl FnMut(&Taken)) {
     }
 }
 
-/// In groups of any size, from fresh records on; with alarms in half of the walks.
+/// In groups of any size, from fresh records on; with alarms in half of the walks, and
+/// with hold in half of these and of the others.
 fn for_drawn_steps(mut see: impl FnMut(&Taken)) {
     let mut draws = Draws::from_seed(51);
     for walk in 0..WALKS {
-        let settings = runs::draw_settings(&mut draws);
+        let drawn = runs::draw_settings(&mut draws);
+        let settings = [drawn, drawn.with_hold()][walk / HABITS.len() % 2];
         let mut run = Run::new(&mut draws, HABITS[walk % HABITS.len()], settings);
         for _ in 0..STEPS_OF_A_WALK {
             let Given {
@@ -159,10 +201,11 @@ fn worth(k1: u8) -> (u8, Reverse<u8>) {
 }
 
 /// By hand from the table: per mask, LO, SF0, SD0 and NR, and for each section
-/// FS, SF, SD, MS, WTR with one step left and RR, besides RR 0.
+/// FS, SF, SD, MS, WTR with one step left and RR, besides RR 0. Each of these without
+/// hold, and with it and nothing held, LO, or FS or MS of a section.
 #[test]
 fn there_are_as_many_steps_as_expected() {
-    assert_eq!(records().count(), 3 * (4 + 2 * 6 + 1));
+    assert_eq!(records().count(), 3 * (4 + 2 * 6 + 1) * (1 + 6));
     assert_eq!(pairs().len(), 21 * 3);
 }
 
@@ -174,7 +217,9 @@ fn every_step_can_be_followed_by_another() {
         } = taken.answer;
         assert_eq!(refusal, 0);
         assert!(can_be_followed(record), "{record:?}");
-        assert_eq!((record.n, record.mask, record.w), (N, taken.record.mask, W));
+        let Record { options, mask, .. } = taken.record;
+        assert_eq!((record.n, record.mask, record.w), (N, mask, W));
+        assert_eq!(record.options, options);
     });
 }
 
@@ -225,18 +270,88 @@ fn nothing_outranks_what_is_sent() {
     });
 }
 
-/// A new command is taken when it is what is sent, unless it was sent before:
-/// then it is held, and giving it again is denied.
+/// Without hold a new command is taken when it is what is sent, unless it was sent before:
+/// then it is held, and giving it again is denied. With hold it is taken when it is of
+/// higher rank than what is held, whatever is sent (02, g).
+fn assert_fate(taken: &Taken) {
+    let is_taken = |k1: u8| match taken.record.options {
+        HOLD => taken.held_k1().map(rank_of) < Some(rank_of(k1)),
+        _ => k1 == taken.answer.k1 && k1 != taken.record.sent,
+    };
+    let expected = match (taken.command, taken.command_k1()) {
+        ((0, _), _) => 0,
+        (_, None) => 1,
+        (_, Some(k1)) if is_taken(k1) => 1,
+        _ => 2,
+    };
+    assert_eq!(taken.answer.fate, expected, "{:?}", taken.record);
+}
+
 #[test]
-fn a_command_is_taken_when_it_is_sent_anew() {
-    for_all_steps(|taken| {
-        let expected = match (taken.command, taken.command_k1()) {
-            ((0, _), _) => 0,
-            (_, None) => 1,
-            (_, Some(k1)) if k1 == taken.answer.k1 && k1 != taken.record.sent => 1,
-            _ => 2,
+fn a_command_is_taken_when_it_is_sent_anew_or_held() {
+    for_all_steps(assert_fate);
+    for_drawn_steps(assert_fate);
+}
+
+/// Neither what is received, nor a condition, nor what is sent bears on what is held with
+/// hold. Without it nothing is, in the record.
+#[test]
+fn with_hold_the_command_that_is_up_is_held() {
+    let see = |taken: &Taken| {
+        let expected = match taken.record.options {
+            HOLD => taken.up_k1().unwrap_or(0x00),
+            _ => 0x00,
         };
-        assert_eq!(taken.answer.fate, expected);
+        assert_eq!(taken.answer.record.held, expected, "{:?}", taken.record);
+    };
+    for_all_steps(see);
+    for_drawn_steps(see);
+}
+
+/// So no other command waits behind it.
+#[test]
+fn with_hold_a_command_that_is_sent_is_held() {
+    let mut waiting = 0;
+    let mut see = |taken: &Taken| {
+        let Record {
+            options,
+            sent,
+            held,
+            ..
+        } = taken.answer.record;
+        assert!(options != HOLD || !is_command(sent) || held == sent);
+        waiting += usize::from(!is_command(sent) && held != 0x00);
+    };
+    for_all_steps(&mut see);
+    for_drawn_steps(&mut see);
+    assert!(waiting >= 100_000, "{waiting}");
+}
+
+/// Where a command is held that was last sent, or none was and none is, an end with hold
+/// does what one without it does. What it keeps, and what it says of the command, is
+/// another matter.
+#[test]
+fn hold_does_not_show_while_no_command_waits() {
+    for_all_steps(|taken| {
+        if taken.record.options == HOLD {
+            return;
+        }
+        let record = Record {
+            options: HOLD,
+            held: taken.held_k1().unwrap_or(0x00),
+            ..taken.record
+        };
+        let holding = Taken::new(record, taken.received, taken.conditions, taken.command).answer;
+        let expected = Answer {
+            record: Record {
+                options: HOLD,
+                held: holding.record.held,
+                ..taken.answer.record
+            },
+            fate: holding.fate,
+            ..taken.answer
+        };
+        assert_eq!(holding, expected, "{:?}", taken.record);
     });
 }
 
@@ -311,8 +426,7 @@ impl Stays {
 fn nothing_goes_before(taken: &Taken, fault: u8) -> bool {
     let rank = rank_of(fault);
     let goes_before = |k1| rank_of(k1) > rank || (rank_of(k1) == rank && channel_of(k1) == 0);
-    // No command is held, because it was the fault that was last sent.
-    !taken.faults().chain(taken.command_k1()).any(goes_before)
+    !taken.faults().chain(taken.up_k1()).any(goes_before)
         && worth(taken.accepted_k1()) <= worth(fault)
 }
 
@@ -344,26 +458,18 @@ fn first_come_stays_in_drawn_walks() {
     assert!(times >= 10_000 && before_a_lower >= 1_000, "{stays:?}");
 }
 
-/// Rules 2 to 4 as 01 alone has them, in bytes: of equal ranks the lower channel
+/// Rules 3 and 4 as 01 alone has them, in bytes: of equal ranks the lower channel
 /// wins, whatever was last sent.
 fn sent_by_01(taken: &Taken) -> u8 {
     let Record { sent, left, w, .. } = taken.record;
-    let is_cleared = taken.command == (1, 0);
-    let is_held = matches!(sent >> 4, 0x8 | 0xE | 0xF) && !is_cleared;
-    let held = is_held.then_some(sent);
-    let new = taken.command_k1();
-    let command = if new.map(rank_of) > held.map(rank_of) {
-        new
-    } else {
-        held
-    };
+    let is_cleared = taken.command == CLEAR;
     let waits = match sent >> 4 {
         0x6 => left > 1,
         0xA..=0xD => w > 0 && channel_of(sent) > 0,
         _ => false,
     };
     let wait = (waits && !is_cleared).then_some(0x60 | channel_of(sent));
-    let candidates = taken.faults().chain(command).chain(wait);
+    let candidates = taken.faults().chain(taken.up_k1()).chain(wait);
     let local = candidates.max_by_key(|&k1| worth(k1)).unwrap_or(0x00);
     let accepted = taken.accepted_k1();
     if rank_of(accepted) > 0 && worth(accepted) > worth(local) {
@@ -383,7 +489,7 @@ fn is_decided_otherwise(taken: &Taken) -> bool {
     assert!(has_lower_equal(taken, first), "{:?}", taken.record);
     let mut best = taken
         .faults()
-        .chain(taken.command_k1())
+        .chain(taken.up_k1())
         .filter(|&k1| rank_of(k1) >= rank_of(first));
     assert!(best.all(|k1| rank_of(k1) == rank_of(first) && channel_of(k1) > 0));
     true

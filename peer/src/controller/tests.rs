@@ -1,5 +1,6 @@
 mod alarm;
 mod first_come;
+mod hold;
 
 use super::*;
 use crate::pair::{decode, Received};
@@ -24,7 +25,7 @@ fn manual(channel: u8) -> (u8, u8) {
 
 /// The group of the paper's sequences.
 fn start() -> Record {
-    fresh(2, 0, 3).unwrap()
+    Settings::new(2, 0, 3).fresh()
 }
 
 fn sent_by(sent: u8) -> Record {
@@ -119,7 +120,7 @@ fn p10_failed_protection_stands_above_a_forced_switch() {
 fn p11_the_mask_goes_before_the_channel() {
     let low = quiet(start(), [0x00, 0x08], BOTH_FAILED);
     assert_eq!(seen(low), ([0xC1, 0x08], 0, 0, 0));
-    let high = quiet(fresh(2, 2, 3).unwrap(), [0x00, 0x08], BOTH_FAILED);
+    let high = quiet(Settings::new(2, 2, 3).fresh(), [0x00, 0x08], BOTH_FAILED);
     assert_eq!(seen(high), ([0xD2, 0x08], 0, 0, 0));
 }
 
@@ -151,7 +152,11 @@ fn without_a_wait_p8_asks_for_nothing() {
 fn the_greatest_group_has_channel_14_and_no_15() {
     let mut conditions = [0; 15];
     conditions[14] = 1;
-    let first = quiet(fresh(14, 1 << 13, 3).unwrap(), [0x00, 0x08], &conditions);
+    let first = quiet(
+        Settings::new(14, 1 << 13, 3).fresh(),
+        [0x00, 0x08],
+        &conditions,
+    );
     assert_eq!(seen(first), ([0xBE, 0x08], 0, 0, 0));
     let switched = quiet(first.record, [0x2E, 0xE8], &conditions);
     assert_eq!(seen(switched), ([0xBE, 0xE8], 14, 0, 0));
@@ -163,13 +168,21 @@ fn the_greatest_group_has_channel_14_and_no_15() {
 fn a_fresh_record_is_idle() {
     let expected = Record {
         n: 14,
+        options: 0,
         mask: 0x3FFF,
         w: 65_535,
         accepted: [0x00, 0x08],
         sent: 0x00,
         left: 0,
+        held: 0x00,
     };
-    assert_eq!(fresh(14, 0x3FFF, 65_535), Ok(expected));
+    let settings = Settings::new(14, 0x3FFF, 65_535);
+    assert_eq!(fresh(settings), Ok(expected));
+    let holding = Record {
+        options: 1,
+        ..expected
+    };
+    assert_eq!(fresh(settings.with_hold()), Ok(holding));
 }
 
 /// Rule 1. What looks like a lockout is not acted on, nor is the other unusable
@@ -367,11 +380,13 @@ fn the_first_fault_is_refused() {
 fn a_refused_step_hands_back_the_record() {
     let odd = Record {
         n: 255,
+        options: 0xFF,
         mask: 0xFFFF,
         w: 0,
         accepted: [0xFF, 0xFF],
         sent: 0xFF,
         left: 0xFFFF,
+        held: 0xFF,
     };
     let waiting = Record {
         accepted: [0x21, 0x1E],
@@ -410,7 +425,7 @@ fn settings_are_refused_outside_their_bounds() {
                 1..=14 => 2,
                 _ => 1,
             };
-            let made = fresh(n, mask, 3).map_or_else(Refusal::number, |_| 0);
+            let made = fresh(Settings::new(n, mask, 3)).map_or_else(Refusal::number, |_| 0);
             assert_eq!(made, expected, "n {n} mask {mask}");
             let record = Record { n, mask, ..start() };
             let conditions = vec![0; usize::from(n) + 1];
@@ -423,7 +438,7 @@ fn settings_are_refused_outside_their_bounds() {
 #[test]
 fn conditions_are_refused_by_number_then_by_value() {
     for n in 1..=14 {
-        let record = fresh(n, 0, 3).unwrap();
+        let record = Settings::new(n, 0, 3).fresh();
         for count in 0..=300 {
             let expected = if count == usize::from(n) + 1 { 0 } else { 4 };
             let answer = quiet(record, [0x00, 0x08], &vec![0; count]);
@@ -443,7 +458,7 @@ fn conditions_are_refused_by_number_then_by_value() {
 #[test]
 fn commands_are_refused_by_number_then_by_channel() {
     for n in [1, 2, 14] {
-        let record = fresh(n, 0, 3).unwrap();
+        let record = Settings::new(n, 0, 3).fresh();
         let conditions = vec![0; usize::from(n) + 1];
         for [command, channel] in (0..=u16::MAX).map(u16::to_be_bytes) {
             let expected = match (command, channel) {

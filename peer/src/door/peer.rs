@@ -11,6 +11,7 @@ use crate::controller::{self, Answer, Record};
 use crate::judge::table::Table;
 use crate::judge::{scan, Verdict};
 use crate::pair::{self, values, Received};
+use crate::settings::Settings;
 use crate::switches;
 use std::io::Write;
 
@@ -18,8 +19,8 @@ pub struct Peer;
 
 impl Door for Peer {
     #[inline(never)]
-    fn fresh(&self, n: u8, mask: u16, wait: u16, record: &mut [u8; RECORD]) -> u8 {
-        let (refusal, made) = match controller::fresh(n, mask, wait) {
+    fn fresh(&self, settings: Settings, record: &mut [u8; RECORD]) -> u8 {
+        let (refusal, made) = match controller::fresh(settings) {
             Ok(made) => (0, record_bytes(&made)),
             Err(refusal) => (refusal.number(), [0; RECORD]),
         };
@@ -85,8 +86,8 @@ impl Door for Peer {
     }
 
     #[inline(never)]
-    fn judge(&self, n: u8, mask: u16, wait: u16, capture: &[u8], out: &mut [u8; VERDICT]) -> u8 {
-        let (refusal, verdict) = verdict_bytes(scan::judge(n, mask, wait, capture));
+    fn judge(&self, settings: Settings, capture: &[u8], out: &mut [u8; VERDICT]) -> u8 {
+        let (refusal, verdict) = verdict_bytes(scan::judge(settings, capture));
         *out = verdict;
         refusal
     }
@@ -94,9 +95,7 @@ impl Door for Peer {
     #[inline(never)]
     fn causes(
         &self,
-        n: u8,
-        mask: u16,
-        wait: u16,
+        settings: Settings,
         capture: &[u8],
         tables: Tables,
         out: &mut [u8; VERDICT],
@@ -105,7 +104,7 @@ impl Door for Peer {
             conditions,
             commands,
         } = tables;
-        let filled = fill(n, mask, wait, capture, conditions, commands);
+        let filled = fill(settings, capture, conditions, commands);
         let (refusal, verdict) = verdict_bytes(filled);
         *out = verdict;
         refusal
@@ -178,22 +177,31 @@ impl Door for Peer {
 }
 
 pub fn record_bytes(record: &Record) -> [u8; RECORD] {
+    let Record {
+        n,
+        options,
+        accepted: [k1, k2],
+        sent,
+        held,
+        ..
+    } = *record;
     let [m1, m0] = record.mask.to_be_bytes();
     let [w1, w0] = record.w.to_be_bytes();
-    let [k1, k2] = record.accepted;
     let [l1, l0] = record.left.to_be_bytes();
-    [record.n, m1, m0, w1, w0, k1, k2, record.sent, l1, l0]
+    [n, options, m1, m0, w1, w0, k1, k2, sent, l1, l0, held]
 }
 
 pub fn record_of(bytes: &[u8; RECORD]) -> Record {
-    let [n, m1, m0, w1, w0, k1, k2, sent, l1, l0] = *bytes;
+    let [n, options, m1, m0, w1, w0, k1, k2, sent, l1, l0, held] = *bytes;
     Record {
         n,
+        options,
         mask: u16::from_be_bytes([m1, m0]),
         w: u16::from_be_bytes([w1, w0]),
         accepted: [k1, k2],
         sent,
         left: u16::from_be_bytes([l1, l0]),
+        held,
     }
 }
 

@@ -1,77 +1,125 @@
 use super::*;
 use crate::books::longest;
+use crate::settings::Settings;
 use crate::trials::PAPER_BOOK;
 
 /// A fill that no answer has in every byte.
 const FILL: u8 = 0xEE;
 
+/// The group of the paper's sequences.
+const OF_TWO: Settings = Settings::new(2, 0, 3);
+
 /// The paper's P1 to P3 and P10, by the bytes of the door.
 #[test]
 fn steps_of_the_paper_in_bytes() {
     let mut fresh = [FILL; RECORD];
-    assert_eq!(Peer.fresh(2, 0, 3, &mut fresh), 0);
-    assert_eq!(fresh, [2, 0, 0, 0, 3, 0x00, 0x08, 0x00, 0, 0]);
+    assert_eq!(Peer.fresh(OF_TWO, &mut fresh), 0);
+    assert_eq!(fresh, [2, 0, 0, 0, 0, 3, 0x00, 0x08, 0x00, 0, 0, 0x00]);
     let mut out = [FILL; STEP];
     assert_eq!(
         Peer.step(&fresh, [0x00, 0x08], &[0, 0, 1], 0, 0, &mut out),
         0
     );
     let p2 = [
-        0, 2, 0, 0, 0, 3, 0x00, 0x08, 0xA2, 0, 0, 0xA2, 0x08, 0, 0, 0, 0,
+        0, 2, 0, 0, 0, 0, 3, 0x00, 0x08, 0xA2, 0, 0, 0x00, 0xA2, 0x08, 0, 0, 0, 0,
     ];
     assert_eq!(out, p2);
     let record = out[1..].first_chunk().copied().unwrap();
     Peer.step(&record, [0x22, 0x28], &[0, 0, 1], 0, 0, &mut out);
     let p3 = [
-        0, 2, 0, 0, 0, 3, 0x22, 0x28, 0xA2, 0, 0, 0xA2, 0x28, 2, 2, 0, 0,
+        0, 2, 0, 0, 0, 0, 3, 0x22, 0x28, 0xA2, 0, 0, 0x00, 0xA2, 0x28, 2, 2, 0, 0,
     ];
     assert_eq!(out, p3);
     Peer.step(&fresh, [0x00, 0x08], &[2, 0, 0], 3, 1, &mut out);
-    assert_eq!(out[11..], [0xD0, 0x08, 0, 0, 0, 2]);
+    assert_eq!(out[13..], [0xD0, 0x08, 0, 0, 0, 2]);
+}
+
+/// P10 with hold, and the step after it: FS 1 is taken, and comes back (02, g).
+#[test]
+fn steps_with_hold_in_bytes() {
+    let mut fresh = [FILL; RECORD];
+    assert_eq!(Peer.fresh(OF_TWO.with_hold(), &mut fresh), 0);
+    assert_eq!(fresh, [2, 1, 0, 0, 0, 3, 0x00, 0x08, 0x00, 0, 0, 0x00]);
+    let mut out = [FILL; STEP];
+    Peer.step(&fresh, [0x00, 0x08], &[2, 0, 0], 3, 1, &mut out);
+    let outranked = [
+        0, 2, 1, 0, 0, 0, 3, 0x00, 0x08, 0xD0, 0, 0, 0xE1, 0xD0, 0x08, 0, 0, 0, 1,
+    ];
+    assert_eq!(out, outranked);
+    let record = out[1..].first_chunk().copied().unwrap();
+    Peer.step(&record, [0x21, 0x18], &[0, 0, 0], 0, 0, &mut out);
+    let back = [
+        0, 2, 1, 0, 0, 0, 3, 0x21, 0x18, 0xE1, 0, 0, 0xE1, 0xE1, 0x18, 1, 1, 0, 0,
+    ];
+    assert_eq!(out, back);
 }
 
 /// An alarm after P3, by the bytes of the door: the accepted pair is 00 08, and
 /// D0 08 is sent (02, c).
 #[test]
 fn a_step_with_an_alarm_in_bytes() {
-    let record = [2, 0, 0, 0, 3, 0x22, 0x28, 0xA2, 0, 0];
+    let record = [2, 0, 0, 0, 0, 3, 0x22, 0x28, 0xA2, 0, 0, 0x00];
     let mut out = [FILL; STEP];
     assert_eq!(
         Peer.step(&record, [0x22, 0x2F], &[0, 0, 1], 0, 0, &mut out),
         0
     );
     let expected = [
-        0, 2, 0, 0, 0, 3, 0x00, 0x08, 0xD0, 0, 0, 0xD0, 0x08, 0, 0, 0, 0,
+        0, 2, 0, 0, 0, 0, 3, 0x00, 0x08, 0xD0, 0, 0, 0x00, 0xD0, 0x08, 0, 0, 0, 0,
     ];
     assert_eq!(out, expected);
 }
 
 #[test]
 fn a_refused_step_answers_zeros_and_the_record_it_was_given() {
-    let record: [u8; RECORD] = [15, 1, 2, 3, 4, 5, 6, 7, 8, 9];
-    let mut out = [FILL; STEP];
-    assert_eq!(Peer.step(&record, [0x00, 0x08], &[], 9, 9, &mut out), 1);
-    let expected = [&[1][..], &record, &[0; 6]].concat();
-    assert_eq!(out[..], expected);
+    let odd: [u8; RECORD] = [15, 1, 2, 3, 4, 5, 6, 7, 8, 9, 10, 11];
+    let other_options = [2, 255, 0, 0, 0, 3, 0x00, 0x08, 0x00, 0, 0, 0xE1];
+    let not_held = [2, 1, 0, 0, 0, 3, 0x00, 0x08, 0x00, 0, 0, 0xE3];
+    let without_hold = [2, 0, 0, 0, 0, 3, 0x00, 0x08, 0x00, 0, 0, 0xE1];
+    for (record, refusal) in [
+        (odd, 1),
+        (other_options, 3),
+        (not_held, 3),
+        (without_hold, 3),
+    ] {
+        let mut out = [FILL; STEP];
+        let answer = Peer.step(&record, [0x00, 0x08], &[], 9, 9, &mut out);
+        assert_eq!(answer, refusal);
+        let expected = [&[refusal][..], &record, &[0; 6]].concat();
+        assert_eq!(out[..], expected);
+    }
 }
 
 #[test]
 fn records_are_big_endian_and_come_back() {
-    let bytes: [u8; RECORD] = [14, 0x2A, 0x55, 0x12, 0x34, 0xA2, 0x28, 0x63, 0x01, 0x02];
+    let bytes: [u8; RECORD] = [
+        14, 7, 0x2A, 0x55, 0x12, 0x34, 0xA2, 0x28, 0x63, 0x01, 0x02, 0xE9,
+    ];
     let record = record_of(&bytes);
     assert_eq!(
         (record.mask, record.w, record.left),
         (0x2A55, 0x1234, 0x0102)
     );
     assert_eq!((record.accepted, record.sent), ([0xA2, 0x28], 0x63));
+    assert_eq!((record.options, record.held), (7, 0xE9));
     assert_eq!(record_bytes(&record), bytes);
 }
 
 #[test]
 fn a_refused_fresh_record_is_zeros() {
-    for (n, mask, refusal) in [(0, 0xFFFF, 1), (15, 0, 1), (2, 4, 2)] {
+    for (n, options, mask, refusal) in [
+        (0, 0, 0xFFFF, 1),
+        (15, 1, 0, 1),
+        (2, 1, 4, 2),
+        (2, 2, 0, 25),
+        (0, 255, 0xFFFF, 25),
+    ] {
         let mut record = [FILL; RECORD];
-        assert_eq!(Peer.fresh(n, mask, 3, &mut record), refusal);
+        let settings = Settings {
+            options,
+            ..Settings::new(n, mask, 3)
+        };
+        assert_eq!(Peer.fresh(settings, &mut record), refusal);
         assert_eq!(record, [0; RECORD]);
     }
 }
@@ -135,16 +183,23 @@ fn verdicts_are_a_kind_and_a_number() {
     let explained = [0x00, 0x08, 0x00, 0x08].repeat(16_384);
     let mut wrong = explained.clone();
     wrong[4 * 300 + 3] = 0x18;
-    for (n, capture, refusal, expected) in [
-        (2, &explained[..], 0, [1, 0x40, 0]),
-        (2, &[], 0, [1, 0, 0]),
-        (2, &wrong, 0, [2, 1, 44]),
-        (2, &explained[..3], 8, [0; 3]),
-        (0, &explained, 1, [0; 3]),
+    for (n, options, capture, refusal, expected) in [
+        (2, 0, &explained[..], 0, [1, 0x40, 0]),
+        (2, 0, &[], 0, [1, 0, 0]),
+        (2, 0, &wrong, 0, [2, 1, 44]),
+        (2, 1, &explained, 0, [1, 0x40, 0]),
+        (2, 1, &wrong, 0, [2, 1, 44]),
+        (2, 1, &explained[..3], 8, [0; 3]),
+        (0, 1, &explained, 1, [0; 3]),
+        (0, 2, &explained[..3], 25, [0; 3]),
     ] {
         let mut out = [FILL; VERDICT];
-        let answer = Peer.judge(n, 0, 3, capture, &mut out);
-        assert_eq!((answer, out), (refusal, expected));
+        let settings = Settings {
+            options,
+            ..Settings::new(n, 0, 3)
+        };
+        let answer = Peer.judge(settings, capture, &mut out);
+        assert_eq!((answer, out), (refusal, expected), "{n} {options}");
     }
 }
 
@@ -160,15 +215,19 @@ fn causes_are_words_and_a_verdict() {
         [0, 0, 0, EMPTY.1, EMPTY.1],
     );
     let untouched = ([EMPTY.0; 5], [EMPTY.1; 5]);
-    for (n, mask, capture, rooms, refusal, left, verdict) in [
-        (2, 0, capture, [5, 5], 0, found, [1, 0, 3]),
-        (2, 0, capture, [3, 3], 0, found, [1, 0, 3]),
-        (2, 0, &longer, [4, 5], 0, untouched, [2, 0, 3]),
-        (2, 0, &longer, [3, 5], 11, untouched, [0; 3]),
-        (2, 0, &longer, [5, 3], 11, untouched, [0; 3]),
-        (2, 0, &longer[..13], [0, 0], 8, untouched, [0; 3]),
-        (2, 4, &longer[..13], [0, 0], 2, untouched, [0; 3]),
-        (0, 4, &longer[..13], [0, 0], 1, untouched, [0; 3]),
+    for ((n, options, mask), capture, rooms, refusal, left, verdict) in [
+        ((2, 0, 0), capture, [5, 5], 0, found, [1, 0, 3]),
+        ((2, 1, 0), capture, [5, 5], 0, found, [1, 0, 3]),
+        ((2, 0, 0), capture, [3, 3], 0, found, [1, 0, 3]),
+        ((2, 0, 0), &longer, [4, 5], 0, untouched, [2, 0, 3]),
+        ((2, 1, 0), &longer, [4, 5], 0, untouched, [2, 0, 3]),
+        ((2, 0, 0), &longer, [3, 5], 11, untouched, [0; 3]),
+        ((2, 1, 0), &longer, [5, 3], 11, untouched, [0; 3]),
+        ((2, 0, 0), &longer[..13], [0, 0], 8, untouched, [0; 3]),
+        ((2, 1, 4), &longer[..13], [0, 0], 2, untouched, [0; 3]),
+        ((0, 0, 4), &longer[..13], [0, 0], 1, untouched, [0; 3]),
+        ((0, 2, 4), &longer[..13], [0, 0], 25, untouched, [0; 3]),
+        ((2, 255, 0), capture, [5, 5], 25, untouched, [0; 3]),
     ] {
         let (mut conditions, mut commands) = untouched;
         let tables = Tables {
@@ -176,19 +235,40 @@ fn causes_are_words_and_a_verdict() {
             commands: &mut commands[..rooms[1]],
         };
         let mut out = [FILL; VERDICT];
-        let answer = Peer.causes(n, mask, 3, capture, tables, &mut out);
-        assert_eq!((answer, out), (refusal, verdict), "{n} {mask} {rooms:?}");
-        assert_eq!((conditions, commands), left, "{n} {mask} {rooms:?}");
+        let settings = Settings {
+            options,
+            ..Settings::new(n, mask, 3)
+        };
+        let answer = Peer.causes(settings, capture, tables, &mut out);
+        let shown = format!("{settings:?} {rooms:?}");
+        assert_eq!((answer, out), (refusal, verdict), "{shown}");
+        assert_eq!((conditions, commands), left, "{shown}");
     }
-    // FS 1 is held, and cleared for a fail of section 2.
-    let capture = [0x00, 0x08, 0xE1, 0x08, 0x00, 0x08, 0xC2, 0x08];
-    let (mut conditions, mut commands) = ([0; 2], [0; 2]);
-    let tables = Tables {
-        conditions: &mut conditions,
-        commands: &mut commands,
-    };
-    assert_eq!(Peer.causes(2, 0, 3, &capture, tables, &mut [0; VERDICT]), 0);
-    assert_eq!((conditions, commands), ([0, 0b10_00_00], [0x0301, 0x0100]));
+}
+
+/// FS 1 is held, and cleared for a fail of section 2; with hold for one of section 0 too,
+/// which it would outlast.
+#[test]
+fn causes_of_two_steps_in_words() {
+    for (settings, sent, expected) in [
+        (OF_TWO, 0xC2, ([0, 0b10_00_00], [0x0301, 0x0100])),
+        (
+            OF_TWO.with_hold(),
+            0xC2,
+            ([0, 0b10_00_00], [0x0301, 0x0100]),
+        ),
+        (OF_TWO, 0xD0, ([0, 0b10], [0x0301, 0x0000])),
+        (OF_TWO.with_hold(), 0xD0, ([0, 0b10], [0x0301, 0x0100])),
+    ] {
+        let capture = [0x00, 0x08, 0xE1, 0x08, 0x00, 0x08, sent, 0x08];
+        let (mut conditions, mut commands) = ([0; 2], [0; 2]);
+        let tables = Tables {
+            conditions: &mut conditions,
+            commands: &mut commands,
+        };
+        let answer = Peer.causes(settings, &capture, tables, &mut [0; VERDICT]);
+        assert_eq!((answer, (conditions, commands)), (0, expected));
+    }
 }
 
 /// The captures of the paper's book: the number of changes stands in the output with its
@@ -263,12 +343,38 @@ fn a_book_with_unfit_settings_is_neither_read_nor_written() {
     }
 }
 
-/// The spare and offset bytes, and the places past the count, are as they may be.
+/// A spare byte above 1, in the last entry, is refused before its settings; 1 is read and
+/// written (02, g).
+#[test]
+fn spare_bytes_are_read_and_written() {
+    for (spare, n, refusal) in [(1, 2, 0), (2, 2, 25), (255, 0, 25), (1, 0, 31)] {
+        let mut book = PAPER_BOOK;
+        (book[14], book[15]) = (n, spare);
+        let mut read = [FILL; CONTENTS];
+        assert_eq!(Peer.read(&book, &mut read), refusal);
+        let mut contents = [FILL; CONTENTS];
+        contents[..25].copy_from_slice(&book[1..26]);
+        let (mut out, mut size) = ([FILL; 46], [FILL; SIZE]);
+        let answer = Peer.write(&contents, &book[26..], &mut out, &mut size);
+        let (left, length) = match refusal {
+            0 => (book, [0, 0, 0, 46]),
+            _ => ([FILL; 46], [0; SIZE]),
+        };
+        assert_eq!((answer, out, size), (refusal, left, length), "{spare}");
+        if refusal > 0 {
+            contents = [0; CONTENTS];
+        } else {
+            contents[25..].fill(0);
+        }
+        assert_eq!(read, contents);
+    }
+}
+
+/// The offset bytes, and the places past the count, are as they may be.
 #[test]
 fn a_book_is_written_from_its_contents() {
     let mut contents = [FILL; CONTENTS];
     contents[..25].copy_from_slice(&PAPER_BOOK[1..26]);
-    contents[2] = FILL;
     contents[7..11].fill(FILL);
     let mut out = [FILL; 50];
     let mut size = [FILL; SIZE];

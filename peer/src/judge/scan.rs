@@ -13,6 +13,13 @@
 //! clear drops the command held and the wait; so every request can be the local
 //! one, unless rule 2 or 3 shuts it out.
 //!
+//! Nor is it asked whether the end has hold (paper: 02, g). With it a command may wait
+//! unseen; but one that comes back could have been given in that step, and one that would
+//! be in the way could have been cleared in the first step that sent something else, in
+//! which there is no other command, and no wait that the clear would end. So all that one
+//! end can send, the other can. The judge by brute force, which has the waiting commands in
+//! its records, finds the same.
+//!
 //! Most rows of a line repeat the row before. Behind a row that is explained, and sends
 //! anything but WTR, such a row leaves all as it was, so that it need only be found to
 //! be the same:
@@ -37,6 +44,7 @@
 use super::{admit, Row, Verdict};
 use crate::controller::Record;
 use crate::pair::Request;
+use crate::settings::Settings;
 use std::hint::select_unpredictable as choose;
 
 /// The last four bits of a K2: bit 5, then the line bits of a good line, those of a
@@ -85,8 +93,8 @@ pub const fn worth(code: u8, channel: u8) -> u8 {
 }
 
 /// The verdict on a capture, or the paper's number for its refusal.
-pub fn judge(n: u8, mask: u16, wait: u16, capture: &[u8]) -> Result<Verdict, u8> {
-    let (start, rows) = admit(n, mask, wait, capture)?;
+pub fn judge(settings: Settings, capture: &[u8]) -> Result<Verdict, u8> {
+    let (start, rows) = admit(settings, capture)?;
     Ok(scan(start, rows))
 }
 
@@ -132,7 +140,7 @@ fn is_all(row: Row, block: &[Row; BLOCK]) -> bool {
 }
 
 /// Some K1: for each code a set of channels, where bit c is channel c.
-#[derive(Clone, Copy)]
+#[derive(Clone, Copy, PartialEq, Eq, Hash)]
 struct K1Set([u16; 16]);
 
 impl K1Set {
@@ -173,6 +181,7 @@ impl K1Set {
 }
 
 /// What was received, as far as an end that has heard it may still go by it.
+#[derive(Clone, PartialEq, Eq, Hash)]
 pub struct Heard {
     n: u8,
     usable: K1Set,
@@ -225,6 +234,7 @@ pub fn is_alarm(k2: u8) -> bool {
 }
 
 /// What the rows so far leave open.
+#[derive(Clone, PartialEq, Eq, Hash)]
 pub struct Line {
     sections: u16,
     w: u16,

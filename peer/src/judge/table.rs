@@ -2,6 +2,7 @@
 
 use super::{judge, scan, Verdict};
 use crate::book::{self, Entry};
+use crate::settings::Settings;
 use crate::table::{self, Captured};
 use std::fmt::{self, Display, Formatter};
 use std::slice;
@@ -15,8 +16,7 @@ impl Table {
     }
 }
 
-/// Of n, mask, W and the capture.
-type Judge = fn(u8, u16, u16, &[u8]) -> Result<Verdict, u8>;
+type Judge = fn(Settings, &[u8]) -> Result<Verdict, u8>;
 
 /// What is printed of one capture, besides its number. The paper has words for one
 /// that the judge refuses, but no book that is read comes by them any more: its
@@ -29,13 +29,10 @@ pub struct Line {
 
 impl Line {
     fn by(judge: Judge, book: &[u8], entry: &Entry) -> Self {
-        let Entry {
-            n, mask, w, steps, ..
-        } = *entry;
-        let judged = judge(n, mask, w, book::body(book, entry));
+        let judged = judge(entry.settings(), book::body(book, entry));
         Self {
-            n,
-            steps,
+            n: entry.n,
+            steps: entry.steps,
             verdict: judged.expect("a capture that was read is not refused"),
         }
     }
@@ -99,6 +96,19 @@ capture sections steps verdict at
                 book[entry + 3] = mask;
                 assert_eq!(printed(&book), format!("refused {refusal}\n"));
             }
+        }
+    }
+
+    /// In either entry: hold changes nothing that is printed, and other options stop the
+    /// book (02, g).
+    #[test]
+    fn spare_bytes_are_hold_or_stop_the_book() {
+        for entry in [3, 15] {
+            let mut book = PAPER_BOOK;
+            book[entry] = 1;
+            assert_eq!(printed(&book), printed(&PAPER_BOOK));
+            book[entry] = 2;
+            assert_eq!(printed(&book), "refused 25\n");
         }
     }
 

@@ -1,4 +1,5 @@
 mod alarms;
+mod hold;
 mod ties;
 
 use super::*;
@@ -8,11 +9,15 @@ use std::collections::HashSet;
 use std::fs;
 use std::path::Path;
 
-/// With the settings of the paper's sequences, by both judges.
+/// With the settings of the paper's sequences, by both judges, without hold and with it.
 fn judged(rows: &[Row]) -> Verdict {
-    let verdict = judge(2, 0, 3, rows.as_flattened());
-    let scanned = scan::judge(2, 0, 3, rows.as_flattened());
-    assert_eq!(scanned, verdict, "{rows:02X?}");
+    let settings = Settings::new(2, 0, 3);
+    let capture = rows.as_flattened();
+    let verdict = judge(settings, capture);
+    for settings in [settings, settings.with_hold()] {
+        assert_eq!(judge(settings, capture), verdict, "{rows:02X?}");
+        assert_eq!(scan::judge(settings, capture), verdict, "{rows:02X?}");
+    }
     verdict.expect("a capture that is not refused")
 }
 
@@ -130,7 +135,10 @@ fn codes_against_the_mask_are_never_sent() {
         (1, 0xA2, Verdict::Explained(1)),
         (2, 0xA2, Verdict::Unexplained(0)),
     ] {
-        assert_eq!(judge(2, mask, 3, &[0x00, 0x08, k1, 0x08]), Ok(verdict));
+        assert_eq!(
+            judge(Settings::new(2, mask, 3), &[0x00, 0x08, k1, 0x08]),
+            Ok(verdict)
+        );
     }
 }
 
@@ -150,21 +158,38 @@ fn the_first_fault_is_refused() {
         (255, 0, &long, 1),
         (14, 0x4000, &whole, 2),
     ] {
-        let verdict = judge(n, mask, 3, capture);
-        assert_eq!(verdict, Err(refusal), "{n} {mask}");
+        let settings = Settings::new(n, mask, 3);
+        for settings in [settings, settings.with_hold()] {
+            assert_eq!(judge(settings, capture), Err(refusal), "{settings}");
+        }
+        // Other options come before all else (02, g).
+        let unknown = Settings {
+            options: 2,
+            ..settings
+        };
+        assert_eq!(judge(unknown, capture), Err(25), "{settings}");
     }
     for length in 1..4 {
-        assert_eq!(judge(2, 0, 3, &uneven[..length]), Err(8));
+        assert_eq!(judge(Settings::new(2, 0, 3), &uneven[..length]), Err(8));
     }
-    assert_eq!(judge(2, 3, 3, &whole), Ok(Verdict::Unexplained(0)));
+    assert_eq!(
+        judge(Settings::new(2, 3, 3), &whole),
+        Ok(Verdict::Unexplained(0))
+    );
 }
 
 #[test]
 fn the_longest_capture_is_judged_to_its_end() {
     let mut capture = [0x00, 0x08, 0x00, 0x08].repeat(16_384);
-    assert_eq!(judge(1, 0, 0, &capture), Ok(Verdict::Explained(16_384)));
+    assert_eq!(
+        judge(Settings::new(1, 0, 0), &capture),
+        Ok(Verdict::Explained(16_384))
+    );
     capture[65_535] = 0x18;
-    assert_eq!(judge(1, 0, 0, &capture), Ok(Verdict::Unexplained(16_383)));
+    assert_eq!(
+        judge(Settings::new(1, 0, 0), &capture),
+        Ok(Verdict::Unexplained(16_383))
+    );
 }
 
 #[test]
@@ -183,7 +208,7 @@ fn causes_are_as_many_as_the_table_has_room_for() {
             .map(|cause| (cause.conditions.clone(), cause.command, cause.channel))
             .collect();
         assert_eq!(distinct.len(), causes.len());
-        let record = controller::fresh(n, 0, 3).unwrap();
+        let record = Settings::new(n, 0, 3).fresh();
         for cause in &causes {
             assert_eq!(after(record, [0x00, 0x08], cause).refusal, 0);
         }
@@ -233,9 +258,33 @@ fn draw_rows(draws: &mut Draws, start: Record, causes: &[Cause]) -> Vec<Row> {
     (0..12).map(draw_row).collect()
 }
 
-fn draw_start(draws: &mut Draws, n: u8) -> Record {
+/// Without hold.
+fn draw_settings(draws: &mut Draws, n: u8) -> Settings {
     let mask = draws.below(1 << n);
-    controller::fresh(n, mask, draws.below(4)).unwrap()
+    Settings::new(n, mask, draws.below(4))
+}
+
+/// With hold or without.
+fn draw_start(draws: &mut Draws, n: u8) -> Record {
+    let settings = draw_settings(draws, n);
+    draws.pick(&[settings, settings.with_hold()]).fresh()
+}
+
+/// Those that a record was made with.
+fn settings_of(start: Record) -> Settings {
+    let Record {
+        n,
+        options,
+        mask,
+        w,
+        ..
+    } = start;
+    Settings {
+        n,
+        options,
+        mask,
+        w,
+    }
 }
 
 /// What larger groups rely on: a second bad section never explains what no one
@@ -285,7 +334,7 @@ fn same_records_reached(start: Record, rows: &[Row], causes: [&[Cause]; 2]) -> b
 /// causes can bring about, one after the other, without sets of records.
 #[test]
 fn explained_are_just_the_captures_of_two_causes() {
-    let start = controller::fresh(1, 0, 1).unwrap();
+    let start = Settings::new(1, 0, 1).fresh();
     let causes = causes(1);
     for received in [
         [[0x81, 0x08], [0x11, 0x08]],
@@ -337,7 +386,7 @@ fn the_steps_before_the_first_unexplained_are_explained() {
     let causes = causes(2);
     let mut unexplained = 0;
     for _ in 0..60 {
-        let start = controller::fresh(2, 1, 2).unwrap();
+        let start = Settings::new(2, 1, 2).fresh();
         let rows = draw_rows(&mut draws, start, &causes);
         let Verdict::Unexplained(step) = explain(start, &rows, &causes) else {
             continue;

@@ -5,6 +5,7 @@ use crate::door::{
     Door, Tables, CHANGE, CHANGES, CONTENTS, DECODED, ENCODED, K1, PAGE, RECORD, SIZE, STEP,
     VERDICT,
 };
+use crate::settings::Settings;
 
 pub enum Library {}
 
@@ -13,7 +14,7 @@ pub fn linked() -> Option<Library> {
 }
 
 impl Door for Library {
-    fn fresh(&self, _: u8, _: u16, _: u16, _: &mut [u8; RECORD]) -> u8 {
+    fn fresh(&self, _: Settings, _: &mut [u8; RECORD]) -> u8 {
         match *self {}
     }
 
@@ -33,11 +34,11 @@ impl Door for Library {
         match *self {}
     }
 
-    fn judge(&self, _: u8, _: u16, _: u16, _: &[u8], _: &mut [u8; VERDICT]) -> u8 {
+    fn judge(&self, _: Settings, _: &[u8], _: &mut [u8; VERDICT]) -> u8 {
         match *self {}
     }
 
-    fn causes(&self, _: u8, _: u16, _: u16, _: &[u8], _: Tables, _: &mut [u8; VERDICT]) -> u8 {
+    fn causes(&self, _: Settings, _: &[u8], _: Tables, _: &mut [u8; VERDICT]) -> u8 {
         match *self {}
     }
 

@@ -2,16 +2,13 @@
 //! have who asked for the list (paper: 02, e), one without any, and one that shows the
 //! names of all requests.
 
-use crate::books::capture::{row, Capture, Settings};
+use crate::books::capture::{row, Capture};
 use crate::books::pairs::{IDLE, UNUSABLE};
 use crate::controller;
 use crate::judge::Row;
+use crate::settings::Settings;
 
-const SETTINGS: Settings = Settings {
-    n: 2,
-    mask: 0,
-    w: 300,
-};
+const SETTINGS: Settings = Settings::new(2, 0, 300);
 
 const STEPS: usize = 2_000;
 /// From here on to there section 1 has failed.

@@ -13,9 +13,11 @@ const MOST_CAPTURES: usize = 64;
 /// each length.
 const STEPS: [usize; 10] = [0, 1, 9, 10, 99, 100, 999, 1_000, 9_999, 10_000];
 
-/// A capture in which these are sent, under settings that fit a book.
+/// A capture in which these are sent, under settings that fit a book, with hold and
+/// without.
 fn sending(draws: &mut Draws, sent: &[u8]) -> Capture {
     let settings = runs::draw_settings(draws);
+    let settings = draws.pick(&[settings, settings.with_hold()]);
     let rows: Vec<Row> = sent
         .iter()
         .map(|&k1| {

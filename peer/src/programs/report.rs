@@ -338,7 +338,7 @@ paper shows [Explained, Unexplained, RefusedBook], not [Explained, Unexplained]
     /// In the line of the second capture, and in a line of a book that has none.
     #[test]
     fn differences_are_shown_in_full_and_in_order() {
-        let settings = " n 2, mask 0, W 3";
+        let settings = " n 2, options 0, mask 0000, W 3";
         for (comparison, row, told, second, counts) in [
             (&JUDGED, 1, settings, "library", JUDGED_COUNTS),
             (&LISTED, 2, "", "program", LISTED_COUNTS),

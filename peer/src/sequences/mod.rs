@@ -10,11 +10,12 @@ mod walks;
 
 use crate::block::Block;
 use crate::controller::{self, Answer, Record};
+use crate::settings::Settings;
 use std::io::{self, Write};
 
 pub fn write<W: Write>(out: &mut W) -> io::Result<()> {
     coder::write(out)?;
-    let blocks: [Block<W>; 7] = [
+    let blocks: [Block<W>; 8] = [
         steps::write,
         table::write,
         refusals::write_of_fresh,
@@ -22,6 +23,7 @@ pub fn write<W: Write>(out: &mut W) -> io::Result<()> {
         refusals::write_by_the_record,
         refusals::write_by_the_command,
         walks::write,
+        walks::write_with_hold,
     ];
     for block in blocks {
         writeln!(out)?;
@@ -78,8 +80,8 @@ fn numbers(answer: &Answer) -> [u8; 7] {
 }
 
 /// For the settings that are written down in these tables, all of them good.
-fn fresh(n: u8, mask: u16, w: u16) -> Record {
-    controller::fresh(n, mask, w).expect("settings within the paper's bounds")
+fn fresh(settings: Settings) -> Record {
+    controller::fresh(settings).expect("settings within the paper's bounds")
 }
 
 #[cfg(test)]
@@ -98,7 +100,7 @@ mod tests {
             .map(|block| block.lines().count())
             .collect();
         let pairs = [18, 18, 18, 18, 17, 17, 1];
-        let controller = [89, 19, 12, 10, 35, 8, 15];
-        assert_eq!(blocks, [pairs, controller].concat());
+        let controller = [131, 19, 12, 10, 62, 8, 15, 15];
+        assert_eq!(blocks, [&pairs[..], &controller].concat());
     }
 }

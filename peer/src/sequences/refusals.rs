@@ -3,11 +3,15 @@
 
 use super::{fresh, numbers, Given};
 use crate::controller::{self, Answer, Record};
+use crate::settings::{Settings, HOLD};
 use std::io::{self, Write};
 use std::ops::RangeInclusive;
 
 /// Good conditions for the greatest group; a smaller one takes the first.
 const GOOD: [u8; 15] = [0; 15];
+
+/// The group of the paper's sequences.
+const OF_TWO: Settings = Settings::new(2, 0, 3);
 
 fn good_step(n: u8) -> Given<'static> {
     Given::new(0x00, 0x08, &GOOD[..=usize::from(n)])
@@ -29,7 +33,7 @@ pub(super) fn write_of_fresh(out: &mut impl Write) -> io::Result<()> {
     ];
     writeln!(out, "refusals of fresh: n, mask: refusal")?;
     for (n, mask) in SETTINGS {
-        let refusal = controller::fresh(n, mask, 3)
+        let refusal = controller::fresh(Settings::new(n, mask, 3))
             .err()
             .map_or(0, controller::Refusal::number);
         writeln!(out, "{n} {mask}: {refusal}")?;
@@ -60,7 +64,7 @@ const FAULTS: [fn(&mut Tried); 7] = [
 impl Tried {
     fn with_faults(faults: [fn(&mut Self); 2]) -> Self {
         let mut tried = Self {
-            record: fresh(2, 0, 3),
+            record: fresh(OF_TWO),
             conditions: vec![0; 3],
             command: 0,
             channel: 0,
@@ -104,7 +108,7 @@ pub(super) fn write_by_the_command(out: &mut impl Write) -> io::Result<()> {
         out,
         "refusals by the command, n 2: rows are commands 0 to 5, columns channels 0 to 3"
     )?;
-    let record = fresh(2, 0, 3);
+    let record = fresh(OF_TWO);
     write_square(out, 0..=5, 0..=3, |command, channel| {
         let given = good_step(record.n).commanded(command, channel);
         given.step(record).refusal
@@ -132,19 +136,41 @@ fn write_square(
     Ok(())
 }
 
+/// Without hold.
 const fn record(n: u8, mask: u16, w: u16, accepted: [u8; 2], sent: u8, left: u16) -> Record {
     Record {
         n,
+        options: 0,
         mask,
         w,
         accepted,
         sent,
         left,
+        held: 0x00,
     }
 }
 
-/// Records on either side of every bound that refusal 3 draws.
-const RECORDS: [Record; 34] = [
+/// With these options and that command held, after these were sent and left.
+const fn holding(options: u8, held: u8, sent: u8, left: u16) -> Record {
+    Record {
+        options,
+        held,
+        ..record(2, 0, 3, [0x00, 0x08], sent, left)
+    }
+}
+
+/// The same in the greatest group.
+const fn holding_of_14(held: u8) -> Record {
+    Record {
+        options: HOLD,
+        held,
+        ..record(14, 8_192, 65_535, [0xEE, 0xE8], 0xDE, 0)
+    }
+}
+
+/// Records on either side of every bound that refusal 3 draws; behind the first thirty-four
+/// those of the held command (02, g).
+const RECORDS: [Record; 61] = [
     record(2, 0, 3, [0x00, 0x08], 0x00, 0),
     record(2, 0, 3, [0x00, 0x00], 0x00, 0),
     record(2, 0, 3, [0x00, 0x0F], 0x00, 0),
@@ -179,23 +205,52 @@ const RECORDS: [Record; 34] = [
     record(2, 0, 3, [0x00, 0x08], 0xE2, 0),
     record(14, 8_192, 65_535, [0xEE, 0xE8], 0xDE, 0),
     record(14, 8_192, 65_535, [0x6E, 0xE8], 0x6E, 65_535),
+    holding(1, 0x00, 0x00, 0),
+    holding(1, 0xF0, 0x00, 0),
+    holding(1, 0xE1, 0x00, 0),
+    holding(1, 0xE2, 0x00, 0),
+    holding(1, 0x81, 0x00, 0),
+    holding(1, 0x82, 0x00, 0),
+    holding(1, 0xE3, 0x00, 0),
+    holding(1, 0xE0, 0x00, 0),
+    holding(1, 0x83, 0x00, 0),
+    holding(1, 0x80, 0x00, 0),
+    holding(1, 0xF1, 0x00, 0),
+    holding(1, 0x01, 0x00, 0),
+    holding(1, 0xC1, 0x00, 0),
+    holding(1, 0xD0, 0x00, 0),
+    holding(1, 0x61, 0x00, 0),
+    holding(1, 0x22, 0x00, 0),
+    holding(0, 0xF0, 0x00, 0),
+    holding(0, 0xE1, 0x00, 0),
+    holding(0, 0x81, 0x00, 0),
+    holding(0, 0x01, 0x00, 0),
+    holding(1, 0x00, 0xF0, 0),
+    holding(1, 0x00, 0xE1, 0),
+    holding(1, 0x82, 0xE1, 0),
+    holding(1, 0x81, 0x61, 2),
+    holding_of_14(0xEE),
+    holding_of_14(0x8E),
+    holding_of_14(0xEF),
 ];
 
 pub(super) fn write_by_the_record(out: &mut impl Write) -> io::Result<()> {
     writeln!(
         out,
-        "refusals by the record: n mask W, accepted, sent, left: refusal"
+        "refusals by the record: n hold mask W, accepted, sent, left, held: refusal"
     )?;
     for record in RECORDS {
         let [k1, k2] = record.accepted;
         writeln!(
             out,
-            "{} {} {} {k1:02X} {k2:02X} {:02X} {}: {}",
+            "{} {} {} {} {k1:02X} {k2:02X} {:02X} {} {:02X}: {}",
             record.n,
+            record.options,
             record.mask,
             record.w,
             record.sent,
             record.left,
+            record.held,
             good_step(record.n).step(record).refusal
         )?;
     }
@@ -254,21 +309,33 @@ mod tests {
     #[test]
     fn records_are_refused_by_what_no_step_could_leave() {
         let good = [
-            "2 0 3 00 08 00 0: 0",
-            "2 0 3 00 2E 00 0: 0",
-            "2 0 3 00 08 22 0: 0",
-            "2 0 3 00 08 D0 0: 0",
-            "2 3 3 00 08 D0 0: 0",
-            "2 0 3 00 08 B0 0: 0",
-            "2 1 3 00 08 D1 0: 0",
-            "2 1 3 00 08 C2 0: 0",
-            "2 2 3 00 08 A1 0: 0",
-            "2 2 3 00 08 B2 0: 0",
-            "2 0 3 00 08 61 1: 0",
-            "2 0 3 00 08 61 3: 0",
-            "2 0 3 00 08 E2 0: 0",
-            "14 8192 65535 EE E8 DE 0: 0",
-            "14 8192 65535 6E E8 6E 65535: 0",
+            "2 0 0 3 00 08 00 0 00: 0",
+            "2 0 0 3 00 2E 00 0 00: 0",
+            "2 0 0 3 00 08 22 0 00: 0",
+            "2 0 0 3 00 08 D0 0 00: 0",
+            "2 0 3 3 00 08 D0 0 00: 0",
+            "2 0 0 3 00 08 B0 0 00: 0",
+            "2 0 1 3 00 08 D1 0 00: 0",
+            "2 0 1 3 00 08 C2 0 00: 0",
+            "2 0 2 3 00 08 A1 0 00: 0",
+            "2 0 2 3 00 08 B2 0 00: 0",
+            "2 0 0 3 00 08 61 1 00: 0",
+            "2 0 0 3 00 08 61 3 00: 0",
+            "2 0 0 3 00 08 E2 0 00: 0",
+            "14 0 8192 65535 EE E8 DE 0 00: 0",
+            "14 0 8192 65535 6E E8 6E 65535 00: 0",
+            "2 1 0 3 00 08 00 0 00: 0",
+            "2 1 0 3 00 08 00 0 F0: 0",
+            "2 1 0 3 00 08 00 0 E1: 0",
+            "2 1 0 3 00 08 00 0 E2: 0",
+            "2 1 0 3 00 08 00 0 81: 0",
+            "2 1 0 3 00 08 00 0 82: 0",
+            "2 1 0 3 00 08 F0 0 00: 0",
+            "2 1 0 3 00 08 E1 0 00: 0",
+            "2 1 0 3 00 08 E1 0 82: 0",
+            "2 1 0 3 00 08 61 2 81: 0",
+            "14 1 8192 65535 EE E8 DE 0 EE: 0",
+            "14 1 8192 65535 EE E8 DE 0 8E: 0",
         ];
         let text = printed(write_by_the_record);
         let (refused, taken): (Vec<&str>, Vec<&str>) =

@@ -3,14 +3,14 @@
 
 use super::{fresh, numbers, Given};
 use crate::controller::Answer;
+use crate::settings::{Settings, HOLD};
 use std::io::{self, Write};
 
 /// Steps that follow one another from a fresh record.
+#[derive(Clone, Copy)]
 struct Sequence {
     name: &'static str,
-    n: u8,
-    mask: u16,
-    w: u16,
+    settings: Settings,
     steps: &'static [Given<'static>],
 }
 
@@ -22,9 +22,7 @@ const fn of_two(
 ) -> Sequence {
     Sequence {
         name,
-        n: 2,
-        mask,
-        w,
+        settings: Settings::new(2, mask, w),
         steps,
     }
 }
@@ -33,9 +31,7 @@ const fn of_two(
 const fn of_three(name: &'static str, mask: u16, steps: &'static [Given<'static>]) -> Sequence {
     Sequence {
         name,
-        n: 3,
-        mask,
-        w: 3,
+        settings: Settings::new(3, mask, 3),
         steps,
     }
 }
@@ -195,9 +191,7 @@ const SEQUENCES: [Sequence; 20] = [
     ),
     Sequence {
         name: "channel 14",
-        n: 14,
-        mask: 1 << 13,
-        w: 3,
+        settings: Settings::new(14, 1 << 13, 3),
         steps: &[
             Given::new(0x00, 0x08, FAILED_14),
             Given::new(0x2E, 0xE8, FAILED_14),
@@ -237,23 +231,96 @@ const SEQUENCES: [Sequence; 20] = [
     ),
 ];
 
+const FAILED_0: &[u8] = &[2, 0, 0];
+const FAILED_1: &[u8] = &[0, 2, 0];
+
+/// The pair 00 08 is received, and no command given.
+const fn idle(conditions: &'static [u8]) -> Given<'static> {
+    Given::new(0x00, 0x08, conditions)
+}
+
+/// What becomes of a command that is outranked, or replaced. Each is gone through by an
+/// end with hold, and then by one without (02, g).
+const OUTRANKED: [Sequence; 4] = [
+    of_two(
+        "a forced switch under a failed section 0",
+        0,
+        3,
+        &[
+            idle(GOOD).commanded(3, 1),
+            idle(FAILED_0),
+            idle(FAILED_0),
+            idle(GOOD),
+        ],
+    ),
+    of_two(
+        "a manual switch behind a failed section",
+        0,
+        3,
+        &[
+            idle(FAILED_1).commanded(4, 2),
+            idle(FAILED_1),
+            idle(GOOD),
+            idle(GOOD),
+        ],
+    ),
+    of_two(
+        "a lockout over a forced switch",
+        0,
+        3,
+        &[
+            idle(GOOD).commanded(3, 1),
+            idle(GOOD).commanded(2, 0),
+            idle(GOOD).commanded(1, 0),
+            idle(GOOD),
+        ],
+    ),
+    of_two(
+        "a second command while the first is overridden",
+        0,
+        3,
+        &[
+            idle(GOOD).commanded(4, 1),
+            idle(FAILED_0).commanded(4, 2),
+            idle(FAILED_0).commanded(3, 2),
+            idle(GOOD),
+            idle(GOOD).commanded(1, 0),
+        ],
+    ),
+];
+
 pub(super) fn write(out: &mut impl Write) -> io::Result<()> {
     writeln!(
         out,
         "the paper's sequences, a line per step: received, conditions, command, channel: \
          refusal, K1 K2, bridge, selector, mark, fate"
     )?;
+    let both = OUTRANKED.iter().flat_map(|&sequence| {
+        let settings = sequence.settings.with_hold();
+        [
+            Sequence {
+                settings,
+                ..sequence
+            },
+            sequence,
+        ]
+    });
     SEQUENCES
-        .iter()
+        .into_iter()
+        .chain(both)
         .try_for_each(|sequence| write_sequence(out, sequence))
 }
 
-fn write_sequence(out: &mut impl Write, sequence: &Sequence) -> io::Result<()> {
-    let Sequence {
-        name, n, mask, w, ..
-    } = *sequence;
-    writeln!(out, "{name}: n {n} mask {mask} W {w}")?;
-    let mut record = fresh(n, mask, w);
+fn write_sequence(out: &mut impl Write, sequence: Sequence) -> io::Result<()> {
+    let Sequence { name, settings, .. } = sequence;
+    let Settings { n, mask, w, .. } = settings;
+    let hold = if settings.options == HOLD {
+        " hold"
+    } else {
+        ""
+    };
+    writeln!(out, "{name}: n {n} mask {mask} W {w}{hold}")?;
+    let mut record = fresh(settings);
     for &given in sequence.steps {
         let answer = given.step(record);
         write_step(out, given, &answer)?;
@@ -356,5 +423,61 @@ A1 18 000 1 0: 0 21 18 1 1 0 1
 no wait: n 2 mask 0 W 0
 ";
         assert!(printed(write).contains(expected));
+    }
+
+    /// By hand from 02, g, and rules 2 to 7. Without hold what is not sent in its step is
+    /// denied, and after the fault of section 1 there is its wait.
+    const OUTRANKED_BY_HAND: &str = "\
+a forced switch under a failed section 0: n 2 mask 0 W 3 hold
+00 08 000 3 1: 0 E1 08 0 0 0 1
+00 08 200 0 0: 0 D0 08 0 0 0 0
+00 08 200 0 0: 0 D0 08 0 0 0 0
+00 08 000 0 0: 0 E1 08 0 0 0 0
+a forced switch under a failed section 0: n 2 mask 0 W 3
+00 08 000 3 1: 0 E1 08 0 0 0 1
+00 08 200 0 0: 0 D0 08 0 0 0 0
+00 08 200 0 0: 0 D0 08 0 0 0 0
+00 08 000 0 0: 0 00 08 0 0 0 0
+a manual switch behind a failed section: n 2 mask 0 W 3 hold
+00 08 020 4 2: 0 C1 08 0 0 0 1
+00 08 020 0 0: 0 C1 08 0 0 0 0
+00 08 000 0 0: 0 82 08 0 0 0 0
+00 08 000 0 0: 0 82 08 0 0 0 0
+a manual switch behind a failed section: n 2 mask 0 W 3
+00 08 020 4 2: 0 C1 08 0 0 0 2
+00 08 020 0 0: 0 C1 08 0 0 0 0
+00 08 000 0 0: 0 61 08 0 0 0 0
+00 08 000 0 0: 0 61 08 0 0 0 0
+a lockout over a forced switch: n 2 mask 0 W 3 hold
+00 08 000 3 1: 0 E1 08 0 0 0 1
+00 08 000 2 0: 0 F0 08 0 0 0 1
+00 08 000 1 0: 0 00 08 0 0 0 1
+00 08 000 0 0: 0 00 08 0 0 0 0
+a lockout over a forced switch: n 2 mask 0 W 3
+00 08 000 3 1: 0 E1 08 0 0 0 1
+00 08 000 2 0: 0 F0 08 0 0 0 1
+00 08 000 1 0: 0 00 08 0 0 0 1
+00 08 000 0 0: 0 00 08 0 0 0 0
+a second command while the first is overridden: n 2 mask 0 W 3 hold
+00 08 000 4 1: 0 81 08 0 0 0 1
+00 08 200 4 2: 0 D0 08 0 0 0 2
+00 08 200 3 2: 0 D0 08 0 0 0 1
+00 08 000 0 0: 0 E2 08 0 0 0 0
+00 08 000 1 0: 0 00 08 0 0 0 1
+a second command while the first is overridden: n 2 mask 0 W 3
+00 08 000 4 1: 0 81 08 0 0 0 1
+00 08 200 4 2: 0 D0 08 0 0 0 2
+00 08 200 3 2: 0 D0 08 0 0 0 2
+00 08 000 0 0: 0 00 08 0 0 0 0
+00 08 000 1 0: 0 00 08 0 0 0 1
+";
+
+    /// Each with hold and without, at the end of the block.
+    #[test]
+    fn commands_that_are_outranked_come_last() {
+        let text = printed(write);
+        assert!(text.ends_with(OUTRANKED_BY_HAND), "{text}");
+        let before = text.len() - OUTRANKED_BY_HAND.len();
+        assert!(text[..before].ends_with("21 18 000 0 0: 0 00 18 1 0 0 0\n"));
     }
 }

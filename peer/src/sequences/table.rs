@@ -2,6 +2,7 @@
 
 use super::{fresh, Given};
 use crate::controller::Record;
+use crate::settings::Settings;
 use std::io::{self, Write};
 
 /// The conditions of an end that acts in a row.
@@ -49,7 +50,7 @@ struct End {
 impl End {
     fn fresh() -> Self {
         Self {
-            record: fresh(2, 0, W),
+            record: fresh(Settings::new(2, 0, W)),
             sent: [0x00, 0x08],
             selector: 0,
         }

@@ -6,6 +6,7 @@
 use super::{fresh, numbers, Given};
 use crate::controller::{Answer, Record};
 use crate::draws::Draws;
+use crate::settings::{Settings, HOLD};
 use std::io::{self, Write};
 
 const STEPS: u32 = 20_000;
@@ -20,13 +21,18 @@ struct Walk {
 }
 
 impl Walk {
-    fn start(n: u8) -> Self {
+    /// What is drawn is the same with all options.
+    fn start(n: u8, options: u8) -> Self {
         let mut draws = Draws::from_seed(u64::from(n));
         let mask = draws.below(1 << n);
         let w = draws.below(4);
+        let settings = Settings {
+            options,
+            ..Settings::new(n, mask, w)
+        };
         Self {
             draws,
-            record: fresh(n, mask, w),
+            record: fresh(settings),
         }
     }
 
@@ -87,8 +93,8 @@ struct Counts {
 }
 
 impl Counts {
-    fn over_walk(n: u8) -> (Record, Self) {
-        let mut walk = Walk::start(n);
+    fn over_walk(n: u8, options: u8) -> (Record, Self) {
+        let mut walk = Walk::start(n, options);
         let start = walk.record;
         let mut counts = Self::default();
         for _ in 0..STEPS {
@@ -103,25 +109,38 @@ impl Counts {
         self.denied += u32::from(answer.fate == 2);
         self.marked += u32::from(answer.mark != 0);
         let Record {
+            options,
             accepted: [k1, k2],
             sent,
             left,
+            held,
             ..
         } = answer.record;
         let bytes = numbers(answer).into_iter().chain([k1, k2, sent]);
-        for number in bytes.map(u32::from).chain([u32::from(left)]) {
+        let held = (options == HOLD).then_some(held);
+        let behind = [u32::from(left)].into_iter().chain(held.map(u32::from));
+        for number in bytes.map(u32::from).chain(behind) {
             self.sum = (self.sum * 31 + number) % SUM_BELOW;
         }
     }
 }
 
 pub(super) fn write(out: &mut impl Write) -> io::Result<()> {
+    write_walks(out, "", 0)
+}
+
+/// The sums of these take in the held command as well (02, g).
+pub(super) fn write_with_hold(out: &mut impl Write) -> io::Result<()> {
+    write_walks(out, " with hold", HOLD)
+}
+
+fn write_walks(out: &mut impl Write, more: &str, options: u8) -> io::Result<()> {
     writeln!(
         out,
-        "walks of {STEPS} steps: n mask W: refused, taken, denied, marked, sum"
+        "walks of {STEPS} steps{more}: n mask W: refused, taken, denied, marked, sum"
     )?;
     for n in 1..=14 {
-        let (start, counts) = Counts::over_walk(n);
+        let (start, counts) = Counts::over_walk(n, options);
         writeln!(
             out,
             "{n} {} {}: {} {} {} {} {}",
@@ -143,9 +162,16 @@ mod tests {
     use crate::pair::{decode, Received};
     use std::collections::BTreeSet;
 
-    fn over_all_walks(mut see: impl FnMut(Record, Given, &Answer)) {
-        for n in 1..=14 {
-            let mut walk = Walk::start(n);
+    fn over_all_walks(see: impl FnMut(Record, Given, &Answer)) {
+        over_walks(&[0, HOLD], see);
+    }
+
+    fn over_walks(options: &[u8], mut see: impl FnMut(Record, Given, &Answer)) {
+        let walks = options
+            .iter()
+            .flat_map(|&options| (1..=14).map(move |n| (n, options)));
+        for (n, options) in walks {
+            let mut walk = Walk::start(n, options);
             for _ in 0..STEPS {
                 let before = walk.record;
                 walk.step(|given, answer| see(before, given, answer));
@@ -167,7 +193,7 @@ mod tests {
                 assert_eq!(answer.refusal, 0);
             }
         });
-        assert!((5_000..7_000).contains(&refused), "{refused}");
+        assert!((10_000..14_000).contains(&refused), "{refused}");
     }
 
     #[test]
@@ -185,7 +211,7 @@ mod tests {
             assert_eq!(read.bridged, answer.bridge);
             assert_eq!(answer.record.sent, answer.k1);
         });
-        assert!(taken >= 270_000, "{taken}");
+        assert!(taken >= 540_000, "{taken}");
     }
 
     /// A comparison over walks is worth no more than what the walks come by.
@@ -202,17 +228,35 @@ mod tests {
         });
         assert!(codes.into_iter().eq([0, 2, 6, 8, 10, 11, 12, 13, 14, 15]));
         assert!(marks.into_iter().eq([0, 3, 4, 5]));
-        assert!((30_000..40_000).contains(&alarms), "{alarms}");
+        assert!((60_000..80_000).contains(&alarms), "{alarms}");
         assert!(fates.into_iter().eq([0, 1, 2]));
     }
 
+    /// Commands that wait, come back, are replaced while they wait, and are denied then.
     #[test]
-    fn the_sum_takes_the_numbers_in_their_order() {
+    fn the_walks_with_hold_come_by_all_that_may_befall_a_command() {
+        let [mut waiting, mut back, mut replaced, mut denied] = [0; 4];
+        over_walks(&[HOLD], |before, given, answer| {
+            let held = answer.record.held;
+            let waited = ![0x00, before.sent].contains(&before.held);
+            waiting += u32::from(![0x00, answer.k1].contains(&held));
+            back += u32::from(waited && answer.k1 == before.held);
+            replaced += u32::from(waited && ![0x00, before.held].contains(&held));
+            denied += u32::from(waited && given.command > 1 && answer.fate == 2);
+        });
+        let counts = [waiting, back, replaced, denied];
+        assert!(counts.iter().all(|&count| count >= 1_000), "{counts:?}");
+    }
+
+    /// The sum of an answer in which all numbers are others, with these options.
+    fn sum_of(options: u8) -> u128 {
         let record = Record {
+            options,
             accepted: [8, 9],
             sent: 10,
             left: 60_000,
-            ..fresh(1, 0, 0)
+            held: 11,
+            ..fresh(Settings::new(1, 0, 0))
         };
         let answer = Answer {
             refusal: 1,
@@ -226,8 +270,14 @@ mod tests {
         };
         let mut counts = Counts::default();
         counts.add(&answer);
+        u128::from(counts.sum)
+    }
+
+    #[test]
+    fn the_sum_takes_the_numbers_in_their_order() {
         let places = [1u128, 2, 3, 4, 5, 6, 7, 8, 9, 10, 60_000];
         let whole = places.iter().fold(0, |sum, number| sum * 31 + number);
-        assert_eq!(u128::from(counts.sum), whole % 65_521);
+        assert_eq!(sum_of(0), whole % 65_521);
+        assert_eq!(sum_of(HOLD), (whole * 31 + 11) % 65_521);
     }
 }

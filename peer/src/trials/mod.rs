@@ -10,6 +10,7 @@ mod writer;
 
 use crate::block::Block;
 use crate::book::{self, Contents, Entry, Refusal, MOST_ENTRIES};
+use crate::settings::Settings;
 use std::fmt::{self, Display, Formatter};
 use std::io::{self, Write};
 
@@ -105,12 +106,10 @@ fn refusal_number<T>(answer: &Result<T, Refusal>) -> u8 {
     answer.as_ref().err().map_or(0, |refusal| refusal.number())
 }
 
-/// Contents to be written, of entries with the given n, mask, W and steps. All
-/// that the writer must not look at holds numbers it would be caught with: the
-/// settings of places past the count would be refused (paper: 02, f).
-pub(crate) fn contents_to_write(
-    entries: impl IntoIterator<Item = (u8, u16, u16, u16)>,
-) -> Contents {
+/// Contents to be written, of entries with the given settings and steps. All that
+/// the writer must not look at holds numbers it would be caught with: the settings of
+/// places past the count would be refused (paper: 02, f).
+pub(crate) fn contents_to_write(entries: impl IntoIterator<Item = (Settings, u16)>) -> Contents {
     const UNSEEN: Entry = Entry {
         n: 0,
         spare: 9,
@@ -123,9 +122,16 @@ pub(crate) fn contents_to_write(
         count: 0,
         places: [UNSEEN; MOST_ENTRIES],
     };
-    for (place, (n, mask, w, steps)) in contents.places.iter_mut().zip(entries) {
+    for (place, (settings, steps)) in contents.places.iter_mut().zip(entries) {
+        let Settings {
+            n,
+            options,
+            mask,
+            w,
+        } = settings;
         *place = Entry {
             n,
+            spare: options,
             mask,
             w,
             steps,
@@ -138,7 +144,8 @@ pub(crate) fn contents_to_write(
 
 /// What the writer needs to be given for the paper's book, besides the bodies.
 fn paper_contents() -> Contents {
-    contents_to_write([(2, 0, 3, 3), (2, 0, 3, 2)])
+    let settings = Settings::new(2, 0, 3);
+    contents_to_write([(settings, 3), (settings, 2)])
 }
 
 /// Bodies of any length, whose bytes differ from their neighbours.
@@ -165,8 +172,8 @@ mod tests {
         // Six rounds with the lines of their 0, 2, 3, 64, 64 and 1 entries.
         let rounds = 6 * 4 + 134;
         let settings = 1 + 17;
-        let reader = (1 + 33) + (1 + 33) + (1 + 26) + 2 + settings;
-        let writer = (1 + 20 * 20) + settings;
+        let reader = (1 + 34) + (1 + 34) + (1 + 26) + 2 + settings;
+        let writer = (1 + 23 * 23) + settings;
         assert_eq!(text.lines().count(), rounds + reader + writer + (1 + 12));
     }
 
@@ -201,8 +208,13 @@ mod tests {
         assert_eq!((unseen.n, unseen.spare, unseen.mask), (0, 9, 9));
         assert_eq!((unseen.w, unseen.offset, unseen.steps), (9, 12_345_678, 9));
         contents.count = 3;
-        let writing = Writing::of(&contents, &PAPER_BOOK[26..], BUFFER_BYTES);
-        assert_eq!(writing.refusal, 31);
+        let refusal = |contents: &Contents| {
+            let bodies = &PAPER_BOOK[26..];
+            Writing::of(contents, bodies, BUFFER_BYTES).refusal
+        };
+        assert_eq!(refusal(&contents), 25);
+        contents.places[2].spare = 0;
+        assert_eq!(refusal(&contents), 31);
     }
 
     #[test]

@@ -1,5 +1,5 @@
 //! Which refusal a book gets from the reader (paper: "Numbered refusals", 20 to
-//! 28, and the orders below the table; 02, f, for 31 and 32).
+//! 28, and the orders below the table; 02, f, for 31 and 32, and g for 25).
 
 use super::{Reading, BUFFER_BYTES, PAPER_BOOK};
 use std::io::{self, Write};
@@ -14,8 +14,8 @@ enum Fault {
 
 /// Those of one refusal stand together, in the order of their numbers; behind
 /// them a few more; then those of settings, of which the last two are faults only
-/// together (02, f).
-const FAULTS: [Fault; 33] = [
+/// together (02, f); and last hold, which is no fault (02, g).
+const FAULTS: [Fault; 34] = [
     Fault::Nothing,
     Fault::Length(65_537),
     Fault::Length(1),
@@ -26,7 +26,7 @@ const FAULTS: [Fault; 33] = [
     Fault::Byte(1, 255),
     Fault::Length(25),
     Fault::Byte(1, 4),
-    Fault::Byte(3, 1),
+    Fault::Byte(3, 2),
     Fault::Byte(15, 255),
     Fault::Byte(11, 27),
     Fault::Byte(11, 25),
@@ -49,6 +49,7 @@ const FAULTS: [Fault; 33] = [
     Fault::Byte(16, 128),
     Fault::Byte(2, 1),
     Fault::Byte(5, 3),
+    Fault::Byte(3, 1),
 ];
 
 /// The paper's book with zeros behind it, to put faults into.
@@ -159,9 +160,9 @@ mod tests {
     use crate::block::printed;
 
     /// By hand from the wording of the refusals.
-    const REFUSALS: [u8; 33] = [
+    const REFUSALS: [u8; 34] = [
         0, 20, 21, 21, 22, 22, 23, 23, 24, 24, 25, 25, 26, 26, 26, 26, 27, 27, 27, 27, 28, 28, 28,
-        26, 26, 27, 31, 31, 31, 32, 32, 0, 0,
+        26, 26, 27, 31, 31, 31, 32, 32, 0, 0, 0,
     ];
 
     #[test]
@@ -256,6 +257,21 @@ mod tests {
         assert_in_order(&pairs);
     }
 
+    /// Whatever is beside it (02, g).
+    #[test]
+    fn hold_is_no_fault() {
+        let pairs = [
+            (33, 11, 25),
+            (33, 26, 31),
+            (33, 29, 32),
+            (33, 12, 26),
+            (33, 16, 27),
+            (33, 20, 28),
+            (33, 31, 0),
+        ];
+        assert_in_order(&pairs);
+    }
+
     /// All of the first comes before what is wrong with the second, and 28 last.
     #[test]
     fn settings_have_their_place_among_the_entries() {
@@ -301,6 +317,8 @@ mod tests {
         assert_eq!(refusal_of(31, 28), 31);
         assert_eq!(refusal_of(29, 32), 0);
         assert_eq!(refusal_of(32, 29), 32);
+        assert_eq!(refusal_of(10, 33), 0);
+        assert_eq!(refusal_of(33, 10), 25);
     }
 
     #[test]
@@ -313,7 +331,8 @@ mod tests {
             (1, "1 1 0 0 0 191 61 0 2 0 1 0 0"),
             // Of n, 1 to 14 are good. Of the mask, what has the lower two bits alone.
             (2, "2 14 0 0 0 0 0 0 0 0 0 242 0"),
-            (3, "3 1 0 0 0 0 0 255 0 0 0 0 0"),
+            // Of the spare byte, 0 and 1.
+            (3, "3 2 0 0 0 0 0 254 0 0 0 0 0"),
             (4, "4 1 0 0 0 0 0 0 0 0 0 0 255"),
             (5, "5 4 0 0 0 0 0 0 0 0 0 0 252"),
             (6, "6 256 0 0 0 0 0 0 0 0 0 0 0"),

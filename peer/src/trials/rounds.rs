@@ -6,6 +6,7 @@ use super::{
     PAPER_BOOK,
 };
 use crate::book::{self, Contents, Entry};
+use crate::settings::Settings;
 use std::io::{self, Write};
 
 struct Round {
@@ -17,7 +18,7 @@ struct Round {
 impl Round {
     fn with_rule_bytes(
         name: &'static str,
-        entries: impl IntoIterator<Item = (u8, u16, u16, u16)>,
+        entries: impl IntoIterator<Item = (Settings, u16)>,
     ) -> Self {
         let contents = contents_to_write(entries);
         let steps: usize = entries_of(&contents)
@@ -34,12 +35,19 @@ impl Round {
 
 fn rounds() -> [Round; 6] {
     // Each mask is shifted until as many bits are left as there are sections: some
-    // of them set, then all.
+    // of them set, then all. Hold comes and goes, and then is there in each (02, g).
     let many = (0..64u16).map(|i| {
         let mask = (1_000 * i + 7) >> (15 - i % 14);
-        ((i % 14 + 1) as u8, mask, 65_535 - i, i % 5)
+        let settings = Settings {
+            options: (i % 2) as u8,
+            ..Settings::new((i % 14 + 1) as u8, mask, 65_535 - i)
+        };
+        (settings, i % 5)
     });
-    let quiet = (0..64u16).map(|i| ((14 - i % 14) as u8, 65_535 >> (2 + i % 14), 300, 0));
+    let quiet = (0..64u16).map(|i| {
+        let settings = Settings::new((14 - i % 14) as u8, 65_535 >> (2 + i % 14), 300);
+        (settings.with_hold(), 0)
+    });
     [
         Round::with_rule_bytes("empty", []),
         Round {
@@ -49,11 +57,15 @@ fn rounds() -> [Round; 6] {
         },
         Round::with_rule_bytes(
             "still",
-            [(1, 0, 0, 0), (14, 16_383, 1, 1), (1, 1, 65_535, 0)],
+            [
+                (Settings::new(1, 0, 0), 0),
+                (Settings::new(14, 16_383, 1), 1),
+                (Settings::new(1, 1, 65_535), 0),
+            ],
         ),
         Round::with_rule_bytes("many", many),
         Round::with_rule_bytes("quiet", quiet),
-        Round::with_rule_bytes("largest", [(14, 10_922, 300, 16_380)]),
+        Round::with_rule_bytes("largest", [(Settings::new(14, 10_922, 300), 16_380)]),
     ]
 }
 
@@ -135,14 +147,14 @@ mod tests {
             "14 0 16383 1 38 1 4 ",
             "1 0 1 65535 42 0 0 0\n",
             // Of the many: the first; 13, with 14 sections and 13,007 >> 2; and 63,
-            // with 8 sections and 63,007 >> 8.
+            // with 8 sections and 63,007 >> 8. The last two have hold.
             "1 0 0 65535 770 0 0 0\n",
-            "14 0 3251 65522 862 3 12 ",
-            "8 0 246 65472 1262 3 12 ",
+            "14 1 3251 65522 862 3 12 ",
+            "8 1 246 65472 1262 3 12 ",
             // Of the quiet ones: 0, 13, and 63 with 7 sections.
-            "14 0 16383 300 770 0 0 0\n",
-            "1 0 1 300 770 0 0 0\n",
-            "7 0 127 300 770 0 0 0\n",
+            "14 1 16383 300 770 0 0 0\n",
+            "1 1 1 300 770 0 0 0\n",
+            "7 1 127 300 770 0 0 0\n",
             "14 0 10922 300 14 16380 65520 ",
         ] {
             assert!(text.contains(&format!("\n{front}")), "{front}");

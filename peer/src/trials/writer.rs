@@ -1,6 +1,6 @@
 //! What the writer refuses and what it leaves in the output (paper: "Numbered
 //! refusals", 20, 23, 29 and 30, and the orders below the table; 02, f, for 31 and
-//! 32).
+//! 32, and g for 25).
 
 use super::{paper_contents, rule_bytes, Writing, BUFFER_BYTES};
 use crate::book::Contents;
@@ -13,8 +13,9 @@ struct Tried {
     room: usize,
 }
 
-/// The last two are no faults, but together one of the mask.
-const FAULTS: [fn(&mut Tried); 20] = [
+/// Two of settings are no faults, but together one of the mask. Behind them stand those
+/// of the spare byte, of which the last is none (02, g).
+const FAULTS: [fn(&mut Tried); 23] = [
     |_| {},
     |tried| tried.contents.count = 65,
     |tried| tried.contents.count = 255,
@@ -46,6 +47,9 @@ const FAULTS: [fn(&mut Tried); 20] = [
     |tried| tried.contents.places[1].mask = 32_768,
     |tried| tried.contents.places[1].n = 1,
     |tried| tried.contents.places[1].mask = 3,
+    |tried| tried.contents.places[0].spare = 2,
+    |tried| tried.contents.places[1].spare = 255,
+    |tried| tried.contents.places[0].spare = 1,
 ];
 
 impl Tried {
@@ -116,6 +120,9 @@ mod tests {
             (32, 0),
             (32, 0),
             (0, 46),
+            (0, 46),
+            (25, 0),
+            (25, 0),
             (0, 46),
         ];
         assert_eq!(expected.len(), FAULTS.len());
@@ -189,6 +196,56 @@ mod tests {
         }
     }
 
+    /// The spare byte is asked for entry by entry too, before 31 (02, g). That of a place
+    /// past the count does not count.
+    #[test]
+    fn spare_bytes_have_their_place_in_the_order() {
+        for (first, second, expected) in [
+            (1, 20, (23, 0)),
+            (2, 21, (23, 0)),
+            (20, 3, (25, 0)),
+            (21, 4, (25, 0)),
+            (20, 8, (25, 0)),
+            (21, 10, (25, 0)),
+            // Both in one entry, and in two.
+            (20, 14, (25, 0)),
+            (20, 16, (25, 0)),
+            (21, 15, (25, 0)),
+            (21, 17, (25, 0)),
+            (20, 15, (25, 0)),
+            (20, 17, (25, 0)),
+            (20, 21, (25, 0)),
+            (21, 14, (31, 0)),
+            (21, 16, (32, 0)),
+            // With a count of one, and of none.
+            (20, 6, (25, 0)),
+            (21, 6, (30, 0)),
+            (20, 13, (0, 2)),
+            (21, 13, (0, 2)),
+            // With one that is none.
+            (22, 21, (25, 0)),
+            (22, 14, (31, 0)),
+            (22, 3, (30, 0)),
+            (22, 9, (29, 0)),
+            (22, 12, (0, 65_534)),
+        ] {
+            assert_eq!(answer_of(first, second), expected, "{first} {second}");
+            assert_eq!(answer_of(second, first), expected, "{second} {first}");
+        }
+        assert_eq!(answer_of(20, 22), (0, 46));
+        assert_eq!(answer_of(22, 20), (25, 0));
+    }
+
+    #[test]
+    fn the_spare_byte_is_written_as_it_is_given() {
+        let written = |fault: usize| Tried::with_faults([FAULTS[fault], FAULTS[0]]).write();
+        let [without, with] = [0, 22].map(written);
+        let [without, with] = [without.book(), with.book()];
+        let differing = (0..46).filter(|&place| without[place] != with[place]);
+        assert!(differing.eq([3]));
+        assert_eq!((without[3], with[3]), (0, 1));
+    }
+
     #[test]
     fn nothing_changes_but_the_book() {
         for first in FAULTS {
@@ -206,8 +263,8 @@ mod tests {
         let text = printed(write);
         let mut lines = text.lines();
         assert_eq!(lines.next(), Some("writer"));
-        for row in 0..20 {
-            for column in 0..20 {
+        for row in 0..23 {
+            for column in 0..23 {
                 let front = format!("{row} {column} ");
                 assert!(lines.next().is_some_and(|line| line.starts_with(&front)));
             }

@@ -1,20 +1,20 @@
 use super::*;
-use crate::books::capture::{has_alarm, Capture, Settings};
+use crate::books::capture::{has_alarm, Capture};
 use crate::books::runs::{self, COMMON, CROWDED, LOCKED};
 use crate::books::{lockout, waits};
 use crate::causes::replay;
 use crate::draws::Draws;
 use crate::judge::scan;
+use crate::settings::Settings;
 
 const FILL: (u32, u16) = (0xEEEE_EEEE, 0xEEEE);
 
 /// The words of a capture that is explained, in tables that are one longer.
 fn filled(settings: Settings, rows: &[Row]) -> (Vec<u32>, Vec<u16>) {
-    let Settings { n, mask, w } = settings;
     let steps = rows.len();
     let (mut conditions, mut commands) = (vec![FILL.0; steps + 1], vec![FILL.1; steps + 1]);
     let capture = rows.as_flattened();
-    let verdict = fill(n, mask, w, capture, &mut conditions, &mut commands);
+    let verdict = fill(settings, capture, &mut conditions, &mut commands);
     assert_eq!(verdict, Ok(Verdict::Explained(steps)), "{rows:02X?}");
     assert_eq!(
         (conditions.pop(), commands.pop()),
@@ -24,15 +24,15 @@ fn filled(settings: Settings, rows: &[Row]) -> (Vec<u32>, Vec<u16>) {
 }
 
 /// With those of the paper's sequences.
-const SETTINGS: Settings = Settings {
-    n: 2,
-    mask: 0,
-    w: 3,
-};
+const SETTINGS: Settings = Settings::new(2, 0, 3);
 
 fn assert_filled(steps: &[(Row, u32, u16)]) {
+    assert_filled_for(SETTINGS, steps);
+}
+
+fn assert_filled_for(settings: Settings, steps: &[(Row, u32, u16)]) {
     let rows: Vec<Row> = steps.iter().map(|&(row, ..)| row).collect();
-    let (conditions, commands) = filled(SETTINGS, &rows);
+    let (conditions, commands) = filled(settings, &rows);
     let words = conditions.into_iter().zip(commands);
     assert!(
         words.eq(steps.iter().map(|&(_, first, second)| (first, second))),
@@ -96,6 +96,45 @@ fn a_clear_is_given_where_something_is_louder() {
         let answered = [received, 0x08, reverse[0], reverse[1]];
         assert_filled(&[(sent(held), 0, command), (answered, 0, cleared)]);
     }
+}
+
+/// With hold a command is cleared in the first step that sends something else, whatever
+/// that is, and is given again where it is sent again (02, g).
+#[test]
+fn with_hold_no_command_is_left_to_wait() {
+    let sent = |k1| [0x00, 0x08, k1, 0x08];
+    let assert_filled = |steps: &[(Row, u32, u16)]| {
+        assert_filled_for(SETTINGS.with_hold(), steps);
+    };
+    assert_filled(&[
+        (sent(0xE1), 0, 0x0301),
+        (sent(0xE1), 0, 0),
+        (sent(0xD0), 0b10, 0x0100),
+        (sent(0xD0), 0b10, 0),
+        (sent(0xE1), 0, 0x0301),
+        (sent(0xF0), 0, 0x0200),
+        (sent(0x00), 0, 0x0100),
+        (sent(0x00), 0, 0),
+    ]);
+    assert_filled(&[
+        (sent(0x81), 0, 0x0401),
+        (sent(0xE2), 0, 0x0302),
+        ([0xF0, 0x08, 0x20, 0x08], 0, 0x0100),
+        (sent(0x82), 0, 0x0402),
+        (sent(0xC1), 0b10_00, 0x0100),
+        (sent(0x61), 0, 0),
+        (sent(0x00), 0, 0x0100),
+    ]);
+    // Without hold nothing is cleared that is not heard.
+    assert_filled_for(
+        SETTINGS,
+        &[
+            (sent(0xE1), 0, 0x0301),
+            (sent(0xD0), 0b10, 0),
+            (sent(0x82), 0, 0x0402),
+            ([0xF0, 0x08, 0x20, 0x08], 0, 0),
+        ],
+    );
 }
 
 #[test]
@@ -171,12 +210,33 @@ fn refusals_in_their_order() {
         (2, 3, &right, [1, 1], Ok(Verdict::Explained(1))),
         (2, 3, &[], [0, 0], Ok(Verdict::Explained(0))),
     ] {
-        let (mut conditions, mut commands) = (vec![FILL.0; rooms[0]], vec![FILL.1; rooms[1]]);
-        let answer = fill(n, mask, 3, capture, &mut conditions, &mut commands);
-        assert_eq!(answer, expected, "{n} {mask} {} {rooms:?}", capture.len());
-        if expected != Ok(Verdict::Explained(1)) {
-            assert!(conditions.iter().all(|&word| word == FILL.0));
-            assert!(commands.iter().all(|&word| word == FILL.1));
+        let settings = Settings::new(n, mask, 3);
+        for settings in [settings, settings.with_hold()] {
+            let (mut conditions, mut commands) = (vec![FILL.0; rooms[0]], vec![FILL.1; rooms[1]]);
+            let answer = fill(settings, capture, &mut conditions, &mut commands);
+            assert_eq!(answer, expected, "{settings} {} {rooms:?}", capture.len());
+            if expected != Ok(Verdict::Explained(1)) {
+                assert!(conditions.iter().all(|&word| word == FILL.0));
+                assert!(commands.iter().all(|&word| word == FILL.1));
+            }
+        }
+    }
+}
+
+/// Before all else, and whatever that is (02, g).
+#[test]
+fn other_options_are_refused() {
+    let right = [0x00, 0x08, 0x00, 0x08];
+    for options in 2..=u8::MAX {
+        for (n, capture) in [(2, &right[..]), (0, &right), (2, &right[..3])] {
+            let settings = Settings {
+                options,
+                ..Settings::new(n, 0, 3)
+            };
+            let (mut conditions, mut commands) = ([FILL.0; 1], [FILL.1; 1]);
+            let answer = fill(settings, capture, &mut conditions, &mut commands);
+            assert_eq!(answer, Err(25), "{settings}");
+            assert_eq!((conditions, commands), ([FILL.0; 1], [FILL.1; 1]));
         }
     }
 }
@@ -187,7 +247,13 @@ fn an_unexplained_capture_leaves_the_tables_alone() {
     let mut rows = vec![[0x00, 0x08, 0xF0, 0x08]; 99];
     rows.push([0x00, 0x08, 0xF0, 0x18]);
     let (mut conditions, mut commands) = ([FILL.0; 100], [FILL.1; 100]);
-    let answer = fill(1, 0, 3, rows.as_flattened(), &mut conditions, &mut commands);
+    let settings = Settings::new(1, 0, 3);
+    let answer = fill(
+        settings,
+        rows.as_flattened(),
+        &mut conditions,
+        &mut commands,
+    );
     assert_eq!(answer, Ok(Verdict::Unexplained(99)));
     assert_eq!((conditions, commands), ([FILL.0; 100], [FILL.1; 100]));
 }
@@ -208,11 +274,12 @@ fn all_rows() -> Vec<Row> {
         .collect()
 }
 
-/// Every explained capture of three steps that can be made of those rows.
+/// Every explained capture of three steps that can be made of those rows, with hold and
+/// without.
 #[test]
 fn all_short_captures_are_sent_by_their_causes() {
     let all = all_rows();
-    for settings in [(0, 1), (1, 0)].map(|(mask, w)| Settings { n: 1, mask, w }) {
+    for settings in [(0, 1), (1, 0)].map(|(mask, w)| Settings::new(1, mask, w)) {
         let longer = |front: &Vec<Row>| {
             let front = front.clone();
             let rows = all.iter().map(move |&row| [&front[..], &[row]].concat());
@@ -223,16 +290,18 @@ fn all_short_captures_are_sent_by_their_causes() {
             captures = captures.iter().flat_map(longer).collect();
         }
         for rows in &captures {
-            let (conditions, commands) = filled(settings, rows);
-            let replayed = replay(settings.fresh(), rows, &conditions, &commands);
-            assert_eq!(replayed, Ok(()), "{settings:?} {rows:02X?}");
+            for settings in [settings, settings.with_hold()] {
+                let (conditions, commands) = filled(settings, rows);
+                let replayed = replay(settings.fresh(), rows, &conditions, &commands);
+                assert_eq!(replayed, Ok(()), "{settings:?} {rows:02X?}");
+            }
         }
         assert!(captures.len() > 10_000, "{}", captures.len());
     }
 }
 
-/// Each word that is not needed would be one too many: without a clear, a command or a
-/// failure under LO the capture is not sent.
+/// Without hold each word that is not needed would be one too many: without a clear, a
+/// command or a failure under LO the capture is not sent.
 fn count_needed(Capture { settings, rows }: &Capture) -> [usize; 3] {
     let (conditions, commands) = filled(*settings, rows);
     let replay =

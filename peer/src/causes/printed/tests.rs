@@ -1,4 +1,7 @@
 use super::*;
+use crate::books::capture::{bind, Capture};
+use crate::causes::line::HEADER;
+use crate::settings::Settings;
 use crate::trials::PAPER_BOOK;
 use std::fs;
 use std::path::{Path, PathBuf};
@@ -187,6 +190,29 @@ fn causes_are_replayed_from_step_to_step() {
         let expected = [(Some(row), said.to_owned())];
         assert_eq!(wrong(&book, &text.replace(line, other)), expected);
     }
+}
+
+/// FS 1 waits behind a failed section 0 with hold, and not without it: so the same causes
+/// are wrong in the first capture and right in the second (02, g).
+#[test]
+fn the_controller_is_one_with_hold_where_the_book_says_so() {
+    let sent = |k1| [0x00, 0x08, k1, 0x08];
+    let rows = [sent(0xE1), sent(0xD0), sent(0x82)];
+    let capture = Capture::new(Settings::new(2, 0, 3), rows);
+    let book = bind(&capture.both_ways()).concat();
+    let text = |second: &str| {
+        let lines = |number| {
+            format!(
+                "{number} 0 0008 E108 000 FS 1\n\
+                 {number} 1 0008 D008 200 {second}\n\
+                 {number} 2 0008 8208 000 MS 2\n"
+            )
+        };
+        format!("{HEADER}\n{}{}", lines(0), lines(1))
+    };
+    assert_eq!(wrong(&book, &text("clear")), []);
+    let waits = [(Some(2), ", which sends E108".to_owned())];
+    assert_eq!(wrong(&book, &text("none")), waits);
 }
 
 /// What the repository shows of its books, where it shows it.

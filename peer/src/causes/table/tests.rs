@@ -1,6 +1,7 @@
 use super::*;
-use crate::books::capture::{bind, Capture, Settings};
+use crate::books::capture::{bind, Capture};
 use crate::judge::Row;
+use crate::settings::Settings;
 use crate::trials::PAPER_BOOK;
 
 fn printed(book: &[u8]) -> String {
@@ -20,7 +21,7 @@ capture step received sent conditions command
 }
 
 fn capture(n: u8, rows: &[Row]) -> Capture {
-    let settings = Settings { n, mask: 1, w: 1 };
+    let settings = Settings::new(n, 1, 1);
     Capture::new(settings, rows)
 }
 
@@ -53,6 +54,21 @@ capture step received sent conditions command
 2 1 2EE8 00E8 000000000000000 clear
 ";
     assert_eq!(printed(&bind(&captures).concat()), expected);
+}
+
+/// With hold a command is cleared that would wait (02, g).
+#[test]
+fn causes_with_hold_and_without_are_told() {
+    let rows = [[0x00, 0x08, 0xE1, 0x08], [0x00, 0x08, 0xD0, 0x08]];
+    let both = capture(1, &rows).both_ways();
+    let expected = "\
+capture step received sent conditions command
+0 0 0008 E108 00 FS 1
+0 1 0008 D008 20 clear
+1 0 0008 E108 00 FS 1
+1 1 0008 D008 20 none
+";
+    assert_eq!(printed(&bind(&both).concat()), expected);
 }
 
 #[test]

@@ -3,10 +3,11 @@
 
 use super::{kinds, Given};
 use crate::book;
-use crate::books::capture::{Capture, Settings};
-use crate::books::runs::{self, COMMON, CROWDED, LOCKED};
+use crate::books::capture::Capture;
+use crate::books::runs::{COMMON, CROWDED, LOCKED};
 use crate::books::{self, lockout, repeats, waits};
-use crate::compare::captures::{alter, flat, ALTERATIONS, LONGEST, SHORT_BELOW};
+use crate::compare::captures::{alter, draw_of_any_end, flat, ALTERATIONS, LONGEST, SHORT_BELOW};
+use crate::compare::options;
 use crate::compare::tally::{Caller, Tally};
 use crate::door::Door;
 use crate::draws::{Bits, Draws};
@@ -22,10 +23,12 @@ pub fn drawn(library: &dyn Door, part: usize) -> Tally {
     let mut caller = Caller::new(library, 17, part);
     let mut draws = caller.bits.draws();
     for number in 0..CAPTURES {
-        let run = match number {
+        let mut run = match number {
             0 => draw_long(&mut caller.bits, &mut draws),
             _ => draw(&mut caller.bits, &mut draws),
         };
+        // Whichever end made it.
+        run.settings.options = options::draw(&mut caller.bits);
         call(&mut caller, run);
     }
     caller.tally
@@ -42,7 +45,7 @@ fn draw(bits: &mut Bits, draws: &mut Draws) -> Capture {
         _ => {
             let habit = bits.pick(&[COMMON, COMMON, LOCKED, CROWDED]);
             let habit = bits.pick(&[habit, habit.with_alarms()]);
-            runs::draw_of_any_settings(draws, habit, steps)
+            draw_of_any_end(bits, draws, habit, steps)
         }
     };
     if bits.once_in(5) {
@@ -63,7 +66,7 @@ fn draw_long(bits: &mut Bits, draws: &mut Draws) -> Capture {
     let any = bits.place(LONGEST);
     let steps = bits.pick(&[LONGEST, LONGEST, any]);
     let habit = bits.pick(&[COMMON, LOCKED, COMMON.with_alarms()]);
-    runs::draw_of_any_settings(draws, habit, steps)
+    draw_of_any_end(bits, draws, habit, steps)
 }
 
 /// All captures of the group of the part.
@@ -81,13 +84,8 @@ fn captures_of(book: &[u8]) -> Vec<Capture> {
     let contents = book::read(book).expect("a sound book");
     let entries = contents.entries().unwrap_or_default();
     let capture = |entry: &book::Entry| {
-        let settings = Settings {
-            n: entry.n,
-            mask: entry.mask,
-            w: entry.w,
-        };
         let (rows, _) = book::body(book, entry).as_chunks();
-        Capture::new(settings, rows)
+        Capture::new(entry.settings(), rows)
     };
     entries.iter().map(capture).collect()
 }

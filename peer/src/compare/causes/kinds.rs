@@ -1,7 +1,9 @@
 //! What is counted of captures whose causes are asked for.
 
 use super::Words;
-use crate::books::capture::{has_alarm, Settings};
+use crate::books::capture::has_alarm;
+use crate::books::held::bring_back;
+use crate::books::pairs::is_command;
 use crate::books::repeats::{go_back, most_repeat, wait_on};
 use crate::compare::captures::LONGEST;
 use crate::compare::tally::Tally;
@@ -9,6 +11,7 @@ use crate::compare::Due;
 use crate::judge::scan::{can_be_failed, Line};
 use crate::judge::Row;
 use crate::pair::{self, nibbles, Request};
+use crate::settings::{Settings, HOLD};
 
 /// All but the second are of captures that are explained.
 #[derive(Clone, Copy)]
@@ -22,6 +25,7 @@ enum Kind {
     AllHigh,
     NoWait,
     Alarm,
+    Hold,
     /// Most rows repeat the row before. Of those: a row comes again behind another, and rows
     /// that send WTR repeat.
     Repeating,
@@ -36,6 +40,9 @@ enum Kind {
     WaitRunOut,
     WaitCleared,
     ForcedOverManual,
+    /// With hold a command is outranked, so that it would wait, and is sent again behind that.
+    HeldOutranked,
+    HeldAgain,
     /// A command that was held, or a wait, has to be cleared for what is sent.
     ClearedForFault,
     ClearedForAnswer,
@@ -56,6 +63,7 @@ pub const DRAWN_KINDS: [Due; KINDS] = [
     ("all high", 10_000),
     ("W = 0", 5_000),
     ("alarm", 10_000),
+    ("hold", 50_000),
     ("most rows repeat", 40_000),
     ("most rows repeat, with changes back", 10_000),
     ("most rows repeat, with runs of WTR", 5_000),
@@ -66,6 +74,8 @@ pub const DRAWN_KINDS: [Due; KINDS] = [
     ("wait run out", 2_000),
     ("wait cleared", 5_000),
     ("forced over manual", 2_000),
+    ("hold, a command outranked", 10_000),
+    ("hold, a command again behind others", 3_000),
     ("cleared for a fault", 5_000),
     ("cleared for an answer", 5_000),
     ("n = 1", 2_000),
@@ -116,10 +126,16 @@ pub fn count(tally: &mut Tally, settings: Settings, rows: &[Row], words: Option<
     kinds.chain([sizes]).for_each(|kind| tally.count(kind));
 }
 
-fn of_capture(settings: Settings, rows: &[Row]) -> [(Kind, bool); 11] {
-    let Settings { n, mask, w } = settings;
+fn of_capture(settings: Settings, rows: &[Row]) -> [(Kind, bool); 13] {
+    let Settings {
+        n,
+        options,
+        mask,
+        w,
+    } = settings;
     let all = (1 << n) - 1;
     let repeating = most_repeat(rows);
+    let holds = options == HOLD;
     [
         (Kind::Explained, true),
         (Kind::NoSteps, rows.is_empty()),
@@ -129,6 +145,8 @@ fn of_capture(settings: Settings, rows: &[Row]) -> [(Kind, bool); 11] {
         (Kind::AllHigh, mask == all),
         (Kind::NoWait, w == 0),
         (Kind::Alarm, rows.iter().any(has_alarm)),
+        (Kind::Hold, holds),
+        (Kind::HeldAgain, holds && bring_back(rows)),
         (Kind::Repeating, repeating),
         (Kind::ChangeBack, repeating && go_back(rows)),
         (Kind::RunOfWaits, repeating && wait_on(rows)),
@@ -138,6 +156,7 @@ fn of_capture(settings: Settings, rows: &[Row]) -> [(Kind, bool); 11] {
 /// Goes through a capture that is explained.
 struct Watch {
     n: u8,
+    holds: bool,
     line: Line,
     last: u8,
 }
@@ -146,12 +165,13 @@ impl Watch {
     fn new(settings: Settings) -> Self {
         Self {
             n: settings.n,
+            holds: settings.options == HOLD,
             line: Line::new(settings.fresh()),
             last: 0x00,
         }
     }
 
-    fn step(&mut self, row: Row, command: u16) -> [(Kind, bool); 9] {
+    fn step(&mut self, row: Row, command: u16) -> [(Kind, bool); 10] {
         let [k1, k2, sent, sent_k2] = row;
         let open = self.line.heard.kept && self.line.lost;
         self.line.explains(row);
@@ -167,6 +187,7 @@ impl Watch {
         let waited = was(Request::WaitToRestore);
         let may_wait = channel > 0 && (failed || degraded || waited);
         let clear = command == 0x0100;
+        let [held, up] = [self.last, sent].map(is_command);
         self.last = sent;
         [
             (Kind::FailedUnseen, shown && !self.line.heard.kept),
@@ -182,6 +203,7 @@ impl Watch {
                 Kind::ForcedOverManual,
                 was(Request::ManualSwitch) && is(Request::ForcedSwitch),
             ),
+            (Kind::HeldOutranked, self.holds && held && !up),
             (Kind::ClearedForFault, faulty && clear),
             (Kind::ClearedForAnswer, is(Request::Reverse) && clear),
         ]

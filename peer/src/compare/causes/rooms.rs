@@ -3,9 +3,9 @@
 
 use super::{Given, SHORT_TABLE};
 use crate::book::MOST_BYTES;
-use crate::books::capture::Settings;
 use crate::compare::captures::{alter, draw_run, flat, ALTERATIONS};
 use crate::compare::faults::{count_pairs, Pair};
+use crate::compare::options;
 use crate::compare::tally::{Caller, Tally};
 use crate::compare::Due;
 use crate::door::Door;
@@ -37,7 +37,12 @@ enum Kind {
 
 const KINDS: usize = Kind::Unexplained as usize + 1;
 
-const PAIRS: [Pair; 10] = [
+const PAIRS: [Pair; 15] = [
+    ("25 and 1", [25, 1]),
+    ("25 and 2", [25, 2]),
+    ("25 and 8", [25, 8]),
+    ("25 and 9", [25, 9]),
+    ("25 and 11", [25, 11]),
     ("1 and 2", [1, 2]),
     ("1 and 8", [1, 8]),
     ("1 and 9", [1, 9]),
@@ -119,6 +124,9 @@ fn spoil(bits: &mut Bits, given: &mut Given) {
     if bits.once_in(3) {
         settings.mask = bits.draw() as u16;
     }
+    if bits.once_in(3) {
+        settings.options = options::draw_other(bits);
+    }
     if bits.once_in(8) {
         capture.resize(MOST_BYTES + 4 * bits.place(3), 0x08);
     }
@@ -156,8 +164,7 @@ fn count(tally: &mut Tally, given: &Given) {
     if !matches!(faults[..], [] | [SHORT_TABLE]) {
         return;
     }
-    let Settings { n, mask, w } = given.settings;
-    let judged = scan::judge(n, mask, w, &given.capture);
+    let judged = scan::judge(given.settings, &given.capture);
     let explained = matches!(judged, Ok(Verdict::Explained(_)));
     let applying = kinds(given, explained).into_iter();
     applying

@@ -4,11 +4,7 @@ use std::cell::Cell;
 
 fn given(capture: &[u8], rooms: [usize; 2]) -> Given {
     Given {
-        settings: Settings {
-            n: 2,
-            mask: 1,
-            w: 3,
-        },
+        settings: Settings::new(2, 1, 3),
         capture: capture.into(),
         rooms,
     }

@@ -10,16 +10,44 @@ pub const NO_SETTINGS: &str = "settings are not looked at";
 pub const SETTINGS_FIRST: &str = "settings come before the rest of the contents";
 pub const SETTINGS_LAST: &str = "settings come behind all else";
 pub const CUT_TAKEN: &str = "books that are cut in their contents are taken";
+/// As it was before 02, g.
+pub const NO_SPARE: &str = "a spare byte is 0";
+const SPARE_LOST: &str = "the spare byte is neither read nor written";
+
+/// Where the spare byte stands in an entry.
+const SPARE: usize = 1;
 
 /// The book with settings that fit, and the refusal of the first that did not.
 pub fn mended(book: &[u8]) -> (Vec<u8>, Option<u8>) {
-    let entries = match book {
-        [_, count, ..] => 2..book.len().min(contents_bytes(usize::from(*count))),
-        _ => 0..0,
-    };
     let mut mended = book.to_vec();
-    let unfit = mend(&mut mended[entries]);
+    let unfit = mend(entries_of(&mut mended));
     (mended, unfit)
+}
+
+/// As many as the book says it has, if they are there.
+fn entries_of(book: &mut [u8]) -> &mut [u8] {
+    let end = match book {
+        [_, count, ..] => contents_bytes(usize::from(*count)),
+        _ => 0,
+    };
+    let end = end.min(book.len());
+    &mut book[end.min(2)..end]
+}
+
+/// The book with a spare byte that is refused wherever one stands for hold.
+pub fn without_hold(book: &[u8]) -> Vec<u8> {
+    let mut without = book.to_vec();
+    let entries = entries_of(&mut without).chunks_exact_mut(ENTRY_BYTES);
+    for entry in entries.filter(|entry| entry[SPARE] == 1) {
+        entry[SPARE] = 2;
+    }
+    without
+}
+
+fn clear_spare(entries: &mut [u8]) {
+    for entry in entries.chunks_exact_mut(ENTRY_BYTES) {
+        entry[SPARE] = 0;
+    }
 }
 
 pub fn read(wrong: &str, book: &[u8], out: &mut [u8; CONTENTS]) -> u8 {
@@ -35,6 +63,12 @@ pub fn read(wrong: &str, book: &[u8], out: &mut [u8; CONTENTS]) -> u8 {
         (CUT_TAKEN, _) if rest == 24 => {
             out[0] = book[1];
             0
+        }
+        (NO_SPARE, _) => Peer.read(&without_hold(book), out),
+        (SPARE_LOST, _) => {
+            let refusal = Peer.read(book, out);
+            clear_spare(&mut out[1..]);
+            refusal
         }
         _ => Peer.read(book, out),
     }
@@ -58,13 +92,26 @@ pub fn write(
             size.fill(0);
             refusal
         }
+        (NO_SPARE | SPARE_LOST, _) => {
+            let refusal = Peer.write(contents, bodies, out, size);
+            if refusal == 0 {
+                clear_spare(entries_of(out));
+            }
+            refusal
+        }
         _ => Peer.write(contents, bodies, out, size),
     }
 }
 
 #[test]
 fn a_library_with_its_own_way_with_settings_is_noticed() {
-    for wrong in [NO_SETTINGS, SETTINGS_FIRST, SETTINGS_LAST] {
+    for wrong in [
+        NO_SETTINGS,
+        SETTINGS_FIRST,
+        SETTINGS_LAST,
+        NO_SPARE,
+        SPARE_LOST,
+    ] {
         for name in ["read", "write"] {
             let tally = part_of(name, &Fake { wrong });
             let differences = tally.differences;
@@ -81,7 +128,7 @@ fn a_library_that_takes_a_cut_book_is_noticed() {
     assert!(tally.differences >= 20, "{}", tally.differences);
 }
 
-/// 31 and 32 come up as often as others do, and a good part of all calls still has
+/// 25, 31 and 32 come up as often as others do, and a good part of all calls still has
 /// none.
 #[test]
 fn settings_are_refused_often() {
@@ -89,7 +136,7 @@ fn settings_are_refused_often() {
         ("read", part_of("read", &Peer)),
         ("write", part_of("write", &Peer)),
     ] {
-        for refusal in [31, 32] {
+        for refusal in [25, 31, 32] {
             let times = part.refusals[refusal];
             assert!(times >= 30, "{name} {refusal}: {times}");
         }

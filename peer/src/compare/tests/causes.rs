@@ -89,28 +89,25 @@ const CLEAR: u16 = 0x0100;
 const LOCKOUT: u8 = 0xF0;
 const FORCED: u16 = 0x0300;
 
-/// n, mask and W.
-type Numbers = (u8, u16, u16);
-
 pub fn fill(
     wrong: &str,
-    numbers: Numbers,
+    settings: Settings,
     capture: &[u8],
     tables: Tables,
     out: &mut [u8; VERDICT],
 ) -> u8 {
     let (conditions, commands) = (tables.conditions, tables.commands);
     let before = (conditions.to_vec(), commands.to_vec());
-    let refusal = find(wrong, numbers, capture, (conditions, commands), out);
+    let refusal = find(wrong, settings, capture, (conditions, commands), out);
     let (rows, _) = capture.as_chunks();
     match (refusal, out[0]) {
-        (0, 1) => spoil_words(wrong, numbers.0, rows, (conditions, commands), &before),
+        (0, 1) => spoil_words(wrong, settings.n, rows, (conditions, commands), &before),
         (0, _) => spoil_unexplained(wrong, rows, conditions, commands),
         _ => {
             return refuse(
                 wrong,
                 refusal,
-                numbers,
+                settings,
                 capture,
                 (conditions, commands),
                 out,
@@ -123,7 +120,7 @@ pub fn fill(
 /// The causes by this reading, with other rooms in place of those that there are.
 fn find(
     wrong: &str,
-    (n, mask, wait): Numbers,
+    settings: Settings,
     capture: &[u8],
     (conditions, commands): Words,
     out: &mut [u8; VERDICT],
@@ -136,7 +133,7 @@ fn find(
         conditions: &mut words,
         commands: &mut orders,
     };
-    let refusal = Peer.causes(n, mask, wait, capture, lent, out);
+    let refusal = hold::causes(wrong, settings, capture, lent, out);
     copy(&words, conditions);
     copy(&orders, commands);
     refusal
@@ -255,7 +252,7 @@ fn spoil_unexplained(wrong: &str, rows: &[Row], conditions: &mut [u32], commands
 fn refuse(
     wrong: &str,
     refusal: u8,
-    (n, mask, wait): Numbers,
+    settings: Settings,
     capture: &[u8],
     (conditions, commands): Words,
     out: &mut [u8; VERDICT],
@@ -263,7 +260,7 @@ fn refuse(
     let steps = capture.len() / STEP_BYTES;
     let is_short = conditions.len() < steps || commands.len() < steps;
     let mut judged = [0; VERDICT];
-    Peer.judge(n, mask, wait, capture, &mut judged);
+    Peer.judge(settings, capture, &mut judged);
     match (wrong, refusal) {
         (REFUSED_WRITES, 11) => {
             conditions.fill(0);
@@ -319,7 +316,8 @@ fn other_causes_are_as_good() {
         commands: &mut orders,
     };
     let mut out = [0; VERDICT];
-    assert_eq!(fill(wrong, (2, 0, 3), &capture, tables, &mut out), 0);
+    let settings = Settings::new(2, 0, 3);
+    assert_eq!(fill(wrong, settings, &capture, tables, &mut out), 0);
     assert_eq!((words, orders), ([0b01_01_01; 2], [0x0301; 2]));
     for name in FINDING {
         let tally = part_of(name, &Fake { wrong });

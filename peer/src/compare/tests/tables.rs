@@ -1,7 +1,7 @@
 //! Libraries that print the table of a book otherwise than this reading, by the names of
 //! what is wrong with them.
 
-use super::books::{mended, NO_SETTINGS};
+use super::books::{mended, without_hold, NO_SETTINGS, NO_SPARE};
 use super::*;
 use crate::book;
 use crate::judge::table::Table;
@@ -25,7 +25,7 @@ const NO_HEADER: &str = "a book without captures has no header";
 const CUT: &str = "a text has 1,707 characters at most";
 const FOUR_DIGITS: &str = "numbers have four digits at most";
 
-const PRINTING: [&str; 16] = [
+const PRINTING: [&str; 17] = [
     ONE_LESS,
     ONE_MORE,
     PAST_THE_PAGE,
@@ -42,6 +42,7 @@ const PRINTING: [&str; 16] = [
     CUT,
     FOUR_DIGITS,
     NO_SETTINGS,
+    NO_SPARE,
 ];
 
 const SUBJECTS: [&str; 2] = ["table, drawn", "table, every number of steps"];
@@ -91,6 +92,7 @@ fn text(wrong: &str, book: &[u8]) -> Vec<u8> {
 fn seen(wrong: &str, book: &[u8]) -> Vec<u8> {
     match wrong {
         NO_SETTINGS => mended(book).0,
+        NO_SPARE => without_hold(book),
         _ if wrong == DEAF.wrong => unheard_in(book),
         _ => book.to_vec(),
     }

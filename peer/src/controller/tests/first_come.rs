@@ -17,7 +17,7 @@ const fn heard(received: [u8; 2], conditions: [u8; 4]) -> Given {
 
 /// The K1 sent in each step, from a fresh record on.
 fn sent<const N: usize>(mask: u16, steps: [Given; N]) -> [u8; N] {
-    let mut record = fresh(3, mask, 3).unwrap();
+    let mut record = Settings::new(3, mask, 3).fresh();
     steps.map(|(received, conditions, command)| {
         let answer = commanded(record, received, &conditions, command);
         record = answer.record;
@@ -29,7 +29,7 @@ fn sent<const N: usize>(mask: u16, steps: [Given; N]) -> [u8; N] {
 fn sent_after(last: u8, mask: u16, conditions: [u8; 4]) -> u8 {
     let record = Record {
         sent: last,
-        ..fresh(3, mask, 3).unwrap()
+        ..Settings::new(3, mask, 3).fresh()
     };
     quiet(record, [0x00, 0x08], &conditions).k1
 }

@@ -1,5 +1,4 @@
 use super::*;
-use crate::books::capture::Settings;
 use crate::books::runs::{self, Habit, COMMON, LOCKED};
 use crate::books::{changes, pairs};
 use crate::controller::step;
@@ -41,7 +40,7 @@ fn the_tables_are_those_of_the_pair() {
 
 #[test]
 fn the_judge_lines_of_the_paper() {
-    let judged = |rows: &[Row]| judge(2, 0, 3, rows.as_flattened());
+    let judged = |rows: &[Row]| judge(Settings::new(2, 0, 3), rows.as_flattened());
     let lockout = [0x81, 0x08, 0xF0, 0x08];
     assert_eq!(judged(&[]), Ok(Verdict::Explained(0)));
     assert_eq!(
@@ -69,8 +68,12 @@ fn refusals_are_those_of_the_other_judge() {
         (2, 3, 0),
     ] {
         let capture = vec![0; length];
-        let expected = crate::judge::judge(n, mask, 3, &capture);
-        assert_eq!(judge(n, mask, 3, &capture), expected, "{n} {mask} {length}");
+        let expected = crate::judge::judge(Settings::new(n, mask, 3), &capture);
+        assert_eq!(
+            judge(Settings::new(n, mask, 3), &capture),
+            expected,
+            "{n} {mask} {length}"
+        );
     }
 }
 
@@ -126,18 +129,20 @@ fn told(rows: &[Row], explained: bool) -> Verdict {
 }
 
 /// Every capture of two steps that can be made of those rows, in a group of one
-/// section.
+/// section, with hold and without.
 #[test]
 fn the_judges_agree_on_all_captures_of_two_steps() {
     let causes = causes(1);
     for (mask, w) in [(0, 1), (1, 0)] {
-        let settings = Settings { n: 1, mask, w };
-        let firsts = longer(settings, &[], &causes);
-        let seconds: usize = firsts
-            .iter()
-            .map(|front| longer(settings, front, &causes).len())
-            .sum();
-        assert!(firsts.len() >= 40 && seconds > 1_000, "{seconds}");
+        let settings = Settings::new(1, mask, w);
+        let explained = [settings, settings.with_hold()].map(|settings| {
+            let firsts = longer(settings, &[], &causes);
+            let seconds = firsts.iter().map(|front| longer(settings, front, &causes));
+            (firsts.len(), seconds.map(|rows| rows.len()).sum::<usize>())
+        });
+        let [(firsts, seconds), holding] = explained;
+        assert_eq!(holding, (firsts, seconds));
+        assert!(firsts >= 40 && seconds > 1_000, "{seconds}");
     }
 }
 
@@ -145,11 +150,7 @@ fn the_judges_agree_on_all_captures_of_two_steps() {
 /// is, and behind a wait.
 #[test]
 fn the_judges_agree_behind_longer_fronts() {
-    let settings = Settings {
-        n: 2,
-        mask: 2,
-        w: 2,
-    };
+    let settings = Settings::new(2, 2, 2);
     let causes = causes(2);
     let fronts: [&[Row]; 6] = [
         &[[0x81, 0x08, 0xF0, 0x08], [0x11, 0x08, 0xF0, 0x08]],
@@ -160,7 +161,9 @@ fn the_judges_agree_behind_longer_fronts() {
         &[[0x00, 0x08, 0x81, 0x08], [0x21, 0x18, 0xE1, 0x18]],
     ];
     for front in fronts {
-        assert!(longer(settings, front, &causes).len() > 20, "{front:02X?}");
+        let explained = longer(settings, front, &causes);
+        assert!(explained.len() > 20, "{front:02X?}");
+        assert_eq!(longer(settings.with_hold(), front, &causes), explained);
     }
 }
 
@@ -175,11 +178,8 @@ fn the_judges_agree_on_drawn_captures() {
         let causes = causes(n);
         for round in 0..24 {
             let mask = draws.below(1 << n);
-            let settings = Settings {
-                n,
-                mask,
-                w: draws.below(4),
-            };
+            let settings = Settings::new(n, mask, draws.below(4));
+            let settings = draws.pick(&[settings, settings.with_hold()]);
             let habit = HABITS[round % HABITS.len()];
             let mut capture = runs::draw(&mut draws, habit, settings, 12);
             if round % 3 > 0 {
@@ -198,14 +198,15 @@ fn the_judges_agree_on_rows_of_any_pairs() {
     let mut draws = Draws::from_seed(42);
     for n in [1, 2, 3, 14] {
         let causes = causes(n);
-        let settings = Settings { n, mask: 1, w: 1 };
+        let settings = Settings::new(n, 1, 1);
         for _ in 0..200 {
             let rows = [(); 3].map(|()| {
                 let [k1, k2] = pairs::draw_sendable(&mut draws, n);
                 let [sent, sent_k2] = pairs::draw_sendable(&mut draws, n);
                 [k1, k2, sent, sent_k2]
             });
-            assert_agree(settings, &rows, &causes);
+            let verdict = assert_agree(settings, &rows, &causes);
+            assert_eq!(assert_agree(settings.with_hold(), &rows, &causes), verdict);
         }
     }
 }
@@ -251,11 +252,7 @@ fn records(settings: Settings) -> Vec<Record> {
 #[test]
 fn a_repeated_row_leads_to_the_same_records() {
     let causes = causes(1);
-    let settings = Settings {
-        n: 1,
-        mask: 0,
-        w: 3,
-    };
+    let settings = Settings::new(1, 0, 3);
     let rows: Vec<Row> = all_rows().filter(|row| row[2] & 0b1111 <= 1).collect();
     let mut led = [0; 2];
     for record in records(settings) {
@@ -308,9 +305,9 @@ struct Trial {
 }
 
 impl Trial {
-    fn new(w: u16, longest: usize) -> Self {
+    fn new(settings: Settings, longest: usize) -> Self {
         Self {
-            settings: Settings { n: 1, mask: 0, w },
+            settings,
             causes: causes(1),
             longest,
         }
@@ -344,12 +341,16 @@ impl Trial {
     }
 }
 
-/// Rows that come back among them, as A B A does.
+/// Rows that come back among them, as A B A does, with hold and without.
 #[test]
 fn the_judges_agree_on_all_captures_of_three_runs() {
     for w in 0..=3 {
-        let trial = Trial::new(w, 4);
-        let tried = trial.agree(&[], &[trial.settings.fresh()], 3);
+        let settings = Settings::new(1, 0, w);
+        let [tried, holding] = [settings, settings.with_hold()].map(|settings| {
+            let trial = Trial::new(settings, 4);
+            trial.agree(&[], &[settings.fresh()], 3)
+        });
+        assert_eq!(tried, holding);
         assert!(tried >= 10_000, "{tried}");
     }
 }
@@ -358,7 +359,8 @@ fn the_judges_agree_on_all_captures_of_three_runs() {
 #[test]
 fn the_judges_agree_on_all_captures_of_two_long_runs() {
     let longest = BLOCK + 3;
-    let trial = Trial::new(longest as u16 - 1, longest);
-    let tried = trial.agree(&[], &[trial.settings.fresh()], 2);
+    let settings = Settings::new(1, 0, longest as u16 - 1);
+    let trial = Trial::new(settings, longest);
+    let tried = trial.agree(&[], &[settings.fresh()], 2);
     assert!(tried >= 50_000, "{tried}");
 }

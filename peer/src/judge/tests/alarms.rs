@@ -2,7 +2,7 @@
 //! by nothing else.
 
 use super::*;
-use crate::books::capture::{has_alarm, Settings};
+use crate::books::capture::has_alarm;
 use crate::books::changes;
 use crate::books::runs::{self, COMMON, LOCKED};
 
@@ -118,10 +118,9 @@ fn neither_a_wait_nor_a_command_outlasts_an_alarm() {
 /// Runs with alarms, half of them of an end that soon hears no more of these; of the
 /// others half with a pair replaced.
 fn draw_with_alarms(draws: &mut Draws, start: Record) -> Vec<Row> {
-    let Record { n, mask, w, .. } = start;
     let habit = draws.pick(&[COMMON, LOCKED]).with_alarms();
     let steps = draws.pick(&[[2, 10], [12, 0]]);
-    let mut capture = runs::draw_going_deaf(draws, habit, Settings { n, mask, w }, steps);
+    let mut capture = runs::draw_going_deaf(draws, habit, settings_of(start), steps);
     if steps == [12, 0] && draws.once_in(2) {
         changes::replace(draws, &mut capture);
     }
@@ -160,7 +159,7 @@ fn with_alarms_too_the_judges_agree_with_all_causes() {
             let start = draw_start(&mut draws, n);
             let rows = draw_with_alarms(&mut draws, start);
             let verdict = explained_by_one_as_by_several(start, &rows, [&several, &one]);
-            let scanned = scan::judge(n, start.mask, start.w, rows.as_flattened());
+            let scanned = scan::judge(settings_of(start), rows.as_flattened());
             assert_eq!(scanned, Ok(verdict), "{start:?} {rows:02X?}");
             seen.see(&rows, verdict);
         }

@@ -2,7 +2,6 @@
 //! 02 d; what can be explained has not, because one bad section is enough for that.
 
 use super::*;
-use crate::books::capture::Settings;
 use crate::books::runs::{Given, Run, CROWDED};
 use crate::controller::by_01;
 use crate::pair;
@@ -13,8 +12,7 @@ const RULES: [Step; 2] = [controller::step, by_01::step];
 /// Steps by the first rule in a crowded group, and how many of them the second would
 /// answer otherwise. In half of the captures one of the pairs sent is another one.
 fn draw_crowded_rows(draws: &mut Draws, start: Record, rules: [Step; 2]) -> (Vec<Row>, usize) {
-    let Record { n, mask, w, .. } = start;
-    let mut run = Run::new(draws, CROWDED, Settings { n, mask, w });
+    let mut run = Run::new(draws, CROWDED, settings_of(start));
     let mut otherwise = 0;
     let draw_row = |_| {
         let Given {
@@ -32,7 +30,7 @@ fn draw_crowded_rows(draws: &mut Draws, start: Record, rules: [Step; 2]) -> (Vec
     if draws.once_in(2) {
         let step = draws.place(rows.len());
         let [k1, k2, ..] = rows[step];
-        let [sent, sent_k2] = draw_pair(draws, n);
+        let [sent, sent_k2] = draw_pair(draws, start.n);
         rows[step] = [k1, k2, sent, sent_k2];
     }
     (rows, otherwise)
@@ -95,7 +93,7 @@ fn no_verdict_hangs_on_how_ties_are_decided() {
     for (n, captures) in [(1u8, 200), (2, 400), (3, 200), (4, 6)] {
         let causes = with_commands(n, &all_conditions(n));
         for _ in 0..captures {
-            let start = draw_start(&mut draws, n);
+            let start = draw_settings(&mut draws, n).fresh();
             let drawn = (draw_rows(&mut draws, start, &causes), 0);
             let crowded = [[with, without], [without, with]]
                 .map(|rules| draw_crowded_rows(&mut draws, start, rules));
@@ -121,7 +119,7 @@ fn records(n: u8, w: u16) -> impl Iterator<Item = Record> {
         .map(move |((mask, sent), left)| Record {
             sent,
             left,
-            ..controller::fresh(n, mask, w).unwrap()
+            ..Settings::new(n, mask, w).fresh()
         })
         .filter(move |&record| controller::step(record, 0x00, 0x08, &good, 0, 0).refusal == 0)
 }
