@@ -51,7 +51,8 @@ use Rattle.book.proofs.write.Statement as write-statement
 use Rattle.book.proofs.write.Met as write-met
 
 -- Reading, the setting hold and the body of a capture, and writing, also of contents in bytes by themselves, answer what their
--- definitions say, for every input. (`statement` is the contract, as the checker reads it off the source; it asks nothing of the caller.)
+-- definitions say, for every input. (`statement` is the contract, as the checker reads it off the source; it asks nothing of the
+-- caller.)
 read-right : {M : Type 1} → read-statement.statement M
 read-right = read-met.met
 

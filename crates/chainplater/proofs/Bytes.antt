@@ -31,7 +31,8 @@ use Rattle.book.specs.declared.Contents.{Contents}
 use Rattle.book.proofs.Books.{refused-writing}
 use Rattle.chainplater.specs.Coder.{flag, encodingBytes}
 use Rattle.chainplater.specs.Record.{layout, fields, named, recordIn, recordBytes, freshFor, outcomeBytes}
-use Rattle.chainplater.specs.Record.{optionsFaults, refusedBytes, stepBytes, StepOf}
+use Rattle.chainplater.specs.Record.{optionsFaults, refusedBytes, stepBytes}
+use Rattle.chainplater.specs.Given.{StepOf}
 use Rattle.chainplater.specs.Verdict.{judgingBytes, Told, RightFor, Judged, CausesFor, CausesTold, fixedBy}
 
 -- entries one by one, from place i on

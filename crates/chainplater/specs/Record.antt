@@ -1,15 +1,14 @@
 -- A controller's record in bytes, fresh or as a step answers it, and the bytes of that answer (02, g).
-use mathlib.Core.Path.{_≡_}
 use mathlib.Core.Bool.{true}
 use mathlib.Core.List.{List, [], _∷_, _++_}
 use Prim.Native.Nat.{ℕ}
-use lib.ListN.{length, getD}
+use lib.ListN.{getD}
 use Rattle.basics.specs.Choice.{if_then_else_}
 use Rattle.basics.specs.Fields.{Width, one, two, fieldsAt, fieldBytes}
 use Rattle.basics.specs.First.{Check, _when_, firstOf}
 use Rattle.basics.specs.Settings.{optionsFit, holdOf}
 use Rattle.controller.specs.Settings.{settingsFaults, Making, zeros, making}
-use Rattle.controller.specs.Step.{refusedStep, step}
+use Rattle.controller.specs.Step.{step}
 use Rattle.controller.specs.declared.Controller.{Controller}
 use Rattle.controller.specs.declared.Outcome.{Outcome}
 use Rattle.chainplater.specs.Coder.{flag}
@@ -69,14 +68,3 @@ unfoldable pub stepBytes : List ℕ → ℕ → ℕ → List ℕ → ℕ → ℕ
 stepBytes given k1 k2 conditions command c =
     if optionsFit (getD given 1 0) then outcomeBytes (step (recordIn given) k1 k2 conditions command c)
     else refusedBytes (firstOf (optionsFaults (recordIn given))) given
-
--- what the functions inside the crate tell each other of an answer, and need not be believed: it is that of a step of the record
--- that was given, so it has its settings and, refused, the whole of it
-pub record StepOf (given : List ℕ) (o : Outcome) : Type 0 where
-  pub long : length given ≡ 12
-  pub fits : optionsFit (getD given 1 0) ≡ true
-  pub sections : o .controller .n ≡ recordIn given .n
-  pub setting : o .controller .hold ≡ recordIn given .hold
-  pub priorities : o .controller .mask ≡ recordIn given .mask
-  pub wait : o .controller .w ≡ recordIn given .w
-  pub refused : (o .refusal ≡ 0 → ⊥) → o ≡ refusedStep (o .refusal) (recordIn given)

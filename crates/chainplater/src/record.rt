@@ -5,7 +5,8 @@ use basics::two_at;
 use controller::Controller;
 use controller::Outcome;
 ghost use Rattle.basics.specs.First.{firstOf};
-ghost use Rattle.chainplater.specs.Record.{recordIn, recordBytes, outcomeBytes, optionsFaults, refusedBytes, StepOf};
+ghost use Rattle.chainplater.specs.Given.{StepOf};
+ghost use Rattle.chainplater.specs.Record.{recordIn, recordBytes, outcomeBytes, optionsFaults, refusedBytes};
 ghost use lib.ListN.{length};
 ghost use mathlib.Core.Path.{_≡_};
 

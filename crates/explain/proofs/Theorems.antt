@@ -125,7 +125,8 @@ first-there : (n : ℕ) (hold : Bool) (mask w : ℕ) (rows : List Row) (i : ℕ)
 first-there = first-within
 
 -- What is explained is explained up to each of its steps, so that there is a first step without explanation.
-prefix-closed : (n : ℕ) (hold : Bool) (mask w : ℕ) (rows : List Row) (i : ℕ) → Explained n hold mask w rows → Explained n hold mask w (take i rows)
+prefix-closed : (n : ℕ) (hold : Bool) (mask w : ℕ) (rows : List Row) (i : ℕ) → Explained n hold mask w rows
+    → Explained n hold mask w (take i rows)
 prefix-closed = explained-prefix
 
 -- Hold changes no verdict (02, g): a capture is explained with it exactly if it is without it.
@@ -205,9 +206,9 @@ fresh-both : (n mask w : ℕ) → sectionsFit n ≡ true → maskFits n mask ≡
     × Recalls (fresh n true mask w)
 fresh-both n mask w fits mask-fits = (refl, refl, fresh-able n mask w fits mask-fits, fresh-recalls n mask w fits mask-fits)
 
--- One step without hold, section 0 not failed: of a request that stands in the table the closed form holds exactly if some conditions and
--- some command make the controller send it. `prior` is the command held before the step, `after` the one held after it.
--- (`Open` and `Hidden`, the closed form, and `Caused`, some cause, are set out in OneStep.)
+-- One step without hold, section 0 not failed: of a request that stands in the table the closed form holds exactly if some
+-- conditions and some command make the controller send it. `prior` is the command held before the step, `after` the one held
+-- after it. (`Open` and `Hidden`, the closed form, and `Caused`, some cause, are set out in OneStep.)
 step-exact : (n mask w left : ℕ) (last far prior after x : Request) → carries requests n (x .code) (x .channel) ≡ true
     → Open n mask w left last far prior after x ↔ Caused n mask w left last false far prior after x
 step-exact = one-step

@@ -1,6 +1,6 @@
 -- What the bytes of a capture leave open of the controller's record, without hold, since hold changes no verdict (02, g; the
--- front door's `hold-exact`). The K1 last sent and the wait left follow from what was sent. The accepted pair is the last usable one received or, since section 0 may have failed unseen, 00 08; an alarm that
--- is received shows that it has failed.
+-- front door's `hold-exact`). The K1 last sent and the wait left follow from what was sent. The accepted pair is the last usable
+-- one received or, since section 0 may have failed unseen, 00 08; an alarm that is received shows that it has failed.
 use mathlib.Core.Path.{_≡_}
 use mathlib.Core.Bool.{Bool, true, false, not, _&&_, _||_}
 use mathlib.Core.List.{List}

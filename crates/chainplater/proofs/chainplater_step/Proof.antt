@@ -10,7 +10,8 @@ use Rattle.basics.specs.Settings.{optionsFit}
 use Rattle.controller.specs.Step.{step}
 use Rattle.controller.specs.declared.Controller.{Controller}
 use Rattle.controller.specs.declared.Outcome.{Outcome}
-use Rattle.chainplater.specs.Record.{recordIn, outcomeBytes, stepBytes, StepOf}
+use Rattle.chainplater.specs.Given.{StepOf}
+use Rattle.chainplater.specs.Record.{recordIn, outcomeBytes, stepBytes}
 use Rattle.chainplater.proofs.Bytes.{step-of}
 use borrow.Author.Needs.{needs}
 use Rattle.chainplater.proofs.chainplater_step.Statement.{statement}
