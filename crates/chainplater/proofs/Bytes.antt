@@ -22,6 +22,7 @@ use Rattle.controller.specs.Step.{refusedStep, moved, step}
 use Rattle.controller.specs.declared.Controller.{Controller}
 use Rattle.controller.specs.declared.Outcome.{Outcome}
 use Rattle.controller.proofs.Keeping.{step-refused, step-keeps}
+use Rattle.explain.specs.Hold.{recast}
 use Rattle.explain.specs.Verdict.{Judging, refusedBy, judgeFaults, Right}
 use Rattle.explain.specs.Causes.{Untouched, Causes, fixedIn}
 use Rattle.explain.proofs.Exact.{answer-one}
@@ -75,21 +76,8 @@ options-back options fits = go (eqb options 1) refl
 
 pub record-back : (s : Controller) → recordIn (recordBytes s) ≡ s
 unfolding recordIn recordBytes
-record-back s = ap named (fields-back layout (fields s) [] [] refl) ∙ (λ i. with-setting (hold-back (s .hold) i))
-  where
-    with-setting : Bool → Controller
-    with-setting hold =
-        record {
-          n = s .n;
-          hold = hold;
-          mask = s .mask;
-          w = s .w;
-          k1 = s .k1;
-          k2 = s .k2;
-          sent = s .sent;
-          left = s .left;
-          held = s .held;
-        }
+record-back s =
+    ap named (fields-back layout (fields s) [] [] refl) ∙ (λ i. recast (hold-back (s .hold) i) (s .held) s)
 
 module _ (bytes : List ℕ) (long : length bytes ≡ 12) (small : (i : ℕ) → getD bytes i 0 < 256) where
   -- with options that a record has

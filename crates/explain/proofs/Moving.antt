@@ -22,6 +22,22 @@ use Rattle.controller.proofs.Sendable.{Sendable, sendable-room}
 use Rattle.controller.proofs.Sending.{sent-sendable}
 use Rattle.controller.proofs.Keeping.{k1-back, unrefused, not-refused, step-unrefused}
 use Rattle.explain.specs.Explained.{Cause, stepped, Sends}
+use Rattle.explain.specs.Hold.{recast}
+
+-- a record with other values behind its settings: the accepted pair, the K1 last sent, the wait left, the held command
+abbrev pub leftBy : Controller → ℕ → ℕ → ℕ → ℕ → ℕ → Controller
+leftBy s k1 k2 sent left held =
+    record {
+      n = s .n;
+      hold = s .hold;
+      mask = s .mask;
+      w = s .w;
+      k1 = k1;
+      k2 = k2;
+      sent = sent;
+      left = left;
+      held = held;
+    }
 
 -- the command in force, by the one that was held
 abbrev pub standsFor : Request → ℕ → ℕ → Request
@@ -60,18 +76,7 @@ module _ (s : Controller) (k1 k2 : ℕ) (acts : List ℕ) where
       pub first : o .k1 ≡ k1Of sentIn
       pub second : o .k2 ≡ k2Of (bridge (farIn .channel) (sentIn .channel) (keepsBridge sentIn))
       pub after :
-          o .controller
-          ≡ record {
-            n = s .n;
-            hold = s .hold;
-            mask = s .mask;
-            w = s .w;
-            k1 = farK1;
-            k2 = farK2;
-            sent = k1Of sentIn;
-            left = leftAfter sentIn nowIn;
-            held = heldAfter (s .hold) standsIn;
-          }
+          o .controller ≡ leftBy s farK1 farK2 (k1Of sentIn) (leftAfter sentIn nowIn) (heldAfter (s .hold) standsIn)
 
     pub moved-parts : Moves (moved s k1 k2 acts command c)
     unfolding moved
@@ -124,21 +129,6 @@ module _ (s : Controller) (cause : Cause) (r : Row) (sends : Sends (stepped s ca
 
   pub sent-left : stepped s cause r .controller .sent ≡ r .sentK1
   sent-left = ap (λ (u : Controller). u .sent) (step-moves s cause r (sends .not-refused) .after) ∙ first-sent
-
--- the record with another setting and another command held
-abbrev pub recast : Bool → ℕ → Controller → Controller
-recast hold held s =
-    record {
-      n = s .n;
-      hold = hold;
-      mask = s .mask;
-      w = s .w;
-      k1 = s .k1;
-      k2 = s .k2;
-      sent = s .sent;
-      left = s .left;
-      held = held;
-    }
 
 module _ (s : Controller) (hold : Bool) (held : ℕ) (cause : Cause) (r : Row) (command c : ℕ) where
   abbrev other : Controller
@@ -217,27 +207,9 @@ module _ (s : Controller) (hold : Bool) (held : ℕ) (cause : Cause) (r : Row) (
     recast-left =
         moves .after
         ∙ (λ i.
-        record {
-          n = s .n;
-          hold = hold;
-          mask = s .mask;
-          w = s .w;
-          k1 = k1-same i;
-          k2 = k2-same i;
-          sent = k1Of (sent-same i);
-          left = leftAfter (sent-same i) (waitOf s (asked (s .sent)) command);
-          held = heldAfter hold stands;
-        })
+        leftBy other (k1-same i) (k2-same i) (k1Of (sent-same i))
+        (leftAfter (sent-same i) (waitOf s (asked (s .sent)) command)) (heldAfter hold stands))
         ∙ (λ i.
-        record {
-          n = s .n;
-          hold = hold;
-          mask = s .mask;
-          w = s .w;
-          k1 = farK1 s (r .k1) (r .k2) acts;
-          k2 = farK2 s (r .k1) (r .k2) acts;
-          sent = k1Of sent;
-          left = waits i;
-          held = heldAfter hold stands;
-        })
+        leftBy other (farK1 s (r .k1) (r .k2) acts) (farK2 s (r .k1) (r .k2) acts) (k1Of sent) (waits i)
+        (heldAfter hold stands))
         ∙ sym (ap (recast hold (heldAfter hold stands)) (moves-same .after))

@@ -32,7 +32,7 @@ use Rattle.explain.specs.Explained.{Cause, stepped, Sends}
 use Rattle.explain.specs.Cause.{commanded, unseen, answers}
 use Rattle.explain.specs.Trace.{secondFits, opens, localIn, hiddenIn, recordAfter, acceptedByte}
 use Rattle.explain.proofs.Local.{wait-unclear, nearOf}
-use Rattle.explain.proofs.Moving.{standsFor, moved-parts}
+use Rattle.explain.proofs.Moving.{leftBy, standsFor, moved-parts}
 use Rattle.explain.proofs.OneStep.{CausedBy, Caused, shownBy, open-shown, hidden-shown, one-step, one-hidden-step}
 
 -- what a run keeps of a record, without hold
@@ -89,17 +89,8 @@ module _ (s : Controller) (r : Row) (able : Able s) (quiet : alarm (s .n) (r .k1
           ≡ k2Of (bridge (far failed .channel) (decided (far failed) near .channel) (keepsBridge (decided (far failed) near)))
       after :
           o .controller
-          ≡ record {
-            n = s .n;
-            hold = s .hold;
-            mask = s .mask;
-            w = s .w;
-            k1 = farK1 failed;
-            k2 = farK2 failed;
-            sent = k1Of (decided (far failed) near);
-            left = leftAfter (decided (far failed) near) now;
-            held = noneHeld;
-          }
+          ≡ leftBy s (farK1 failed) (farK2 failed) (k1Of (decided (far failed) near))
+          (leftAfter (decided (far failed) near) now) noneHeld
 
     -- without hold the held command is read off the K1 last sent
     read-off : heldBy (s .hold) (s .held) last ≡ held last
@@ -130,17 +121,8 @@ module _ (s : Controller) (r : Row) (able : Able s) (quiet : alarm (s .n) (r .k1
           after =
               parts .after
               ∙ (λ i.
-              record {
-                n = s .n;
-                hold = s .hold;
-                mask = s .mask;
-                w = s .w;
-                k1 = farK1 failed;
-                k2 = farK2 failed;
-                sent = k1Of (sentBy failed (read-off i));
-                left = leftAfter (sentBy failed (read-off i)) now;
-                held = none i;
-              });
+              leftBy s (farK1 failed) (farK2 failed) (k1Of (sentBy failed (read-off i)))
+              (leftAfter (sentBy failed (read-off i)) now) (none i));
         }
 
     step-is : (failed : Bool) → eqb (protection (cause .conditions)) 2 ≡ failed → stepped s cause r .refusal ≡ 0
@@ -276,18 +258,7 @@ module _ (s : Controller) (r : Row) (able : Able s) (quiet : alarm (s .n) (r .k1
     record-is t e =
         subst (λ (b : Bool). stepped s cause r .controller ≡ recordAfter s now0 (farK1 b) (farK2 b) (r .sentK1)) e
         (answered .after
-        ∙ (λ i.
-        record {
-          n = s .n;
-          hold = s .hold;
-          mask = s .mask;
-          w = s .w;
-          k1 = farK1 failed;
-          k2 = farK2 failed;
-          sent = first-is i;
-          left = left-is i;
-          held = noneHeld;
-        }))
+        ∙ (λ i. leftBy s (farK1 failed) (farK2 failed) (first-is i) (left-is i) noneHeld))
 
   bridge-none : (c : ℕ) (kept : Bool) → bridge 0 c kept ≡ 0
   bridge-none c kept = let within = bridge-within 0 c kept in omega arith

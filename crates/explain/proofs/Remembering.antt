@@ -24,13 +24,13 @@ use Rattle.controller.proofs.Apart.{wait-kind}
 use Rattle.controller.proofs.Inputs.{WellFormed, acceptable-facts, facts-acceptable}
 use Rattle.explain.specs.Explained.{Cause, stepped, Sends}
 use Rattle.explain.specs.Cause.{louder, deciding, commandFor, channelFor, isLouder}
-use Rattle.explain.specs.Hold.{remembering, withHold}
+use Rattle.explain.specs.Hold.{recast, remembering, withHold}
 use Rattle.explain.specs.Trace.{start, live, acceptedByte, next}
 use Rattle.explain.specs.declared.Records.{Records}
 use Rattle.explain.proofs.Local.{wait-unclear}
 use Rattle.explain.proofs.Witness.{or-false, held-none}
 use Rattle.explain.proofs.Moving.{standsFor, farIn, sentWith, standsIn, actsIn, step-well, sent-able, sent-asked, sent-left}
-use Rattle.explain.proofs.Moving.{recast, recast-sends, recast-left}
+use Rattle.explain.proofs.Moving.{recast-sends, recast-left}
 use Rattle.explain.proofs.Without.{sent-command}
 use Rattle.explain.proofs.Reached.{Able}
 use Rattle.explain.proofs.Possible.{In, flag, pick, pick-in, in-pick, holding, causeShown, failedBy, idleBy, next-led, next-in}

@@ -24,7 +24,7 @@ use Rattle.explain.specs.Explained.{Cause, stepped, Sends, Explains, Exp
 use Rattle.explain.specs.Causes.{noOtherBit, causesIn, Causes, fixedIn}
 use Rattle.explain.specs.Verdict.{Judging, explainedAt, unexplainedAt, refusedBy, told, judgeFaults, Right}
 use Rattle.explain.specs.Lines.{lines, AllRight}
-use Rattle.explain.specs.Hold.{remembering, forgetting, withHold}
+use Rattle.explain.specs.Hold.{recast, remembering, forgetting, withHold}
 use Rattle.repeats.specs.Repeats.{runOf}
 use Rattle.explain.specs.Scan.{scanFrom}
 use Rattle.explain.specs.Trace.{idled, start, live, next, passes, passed}
@@ -133,36 +133,28 @@ prefix-closed = explained-prefix
 hold-exact : (n mask w : ℕ) (rows : List Row) → Explained n true mask w rows ↔ Explained n false mask w rows
 hold-exact = hold-alike
 
--- That is by a simulation of each machine by the other, step by step. Their records: `remembering s` is the record s with hold,
--- and holds just what was last sent, if that is a command; `forgetting t` is t without hold, and holds nothing.
-remembering-means : (s : Controller)
-    → remembering s
+-- That is by a simulation of each machine by the other, step by step. Their records: `recast hold held s` is s with this setting
+-- and this command held, and otherwise as it is; `remembering s` is so with hold, and holds just what was last sent, if that is a
+-- command; `forgetting t` is so without hold, and holds nothing.
+recast-means : (s : Controller) (hold : Bool) (held : ℕ)
+    → recast hold held s
     ≡ record {
       n = s .n;
-      hold = true;
+      hold = hold;
       mask = s .mask;
       w = s .w;
       k1 = s .k1;
       k2 = s .k2;
       sent = s .sent;
       left = s .left;
-      held = k1Of (held (asked (s .sent)));
+      held = held;
     }
+recast-means s hold held = refl
+
+remembering-means : (s : Controller) → remembering s ≡ recast true (k1Of (held (asked (s .sent)))) s
 remembering-means s = refl
 
-forgetting-means : (t : Controller)
-    → forgetting t
-    ≡ record {
-      n = t .n;
-      hold = false;
-      mask = t .mask;
-      w = t .w;
-      k1 = t .k1;
-      k2 = t .k2;
-      sent = t .sent;
-      left = t .left;
-      held = noneHeld;
-    }
+forgetting-means : (t : Controller) → forgetting t ≡ recast false noneHeld t
 forgetting-means t = refl
 
 -- `Recalls t`: no step from t has one of refusals 1 to 3; t has hold, and where a command was last sent it is the held one.
