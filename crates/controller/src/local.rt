@@ -3,7 +3,6 @@ use crate::asked::rank_of;
 use crate::codes::NO_REQUEST;
 use crate::codes::REVERSE;
 use crate::section::condition;
-use pair::request::rank;
 use request::Request;
 use request::better;
 use request::turn;
@@ -131,7 +130,7 @@ fn beats(a: Request, b: Request) -> bool
     ensures { λ r. ⌜ r ≡ byRank rankOf a b ⌝ }
 {
     // Of what has no rank the other's need not be known.
-    let first = rank(a.code, a.channel);
+    let first = rank_of(a);
     (0 < first) && better(first, a.channel, rank_of(b), b.channel)
 }
 

@@ -66,8 +66,7 @@ fn acceptable(s: Controller, accepted: u16, sent: u16, held: u16) -> bool
     let in_table = usable_in(sent, s.n);
     let against = against_mask(s.mask, code, channel);
     let wait_good = wait_fits(code, s.w, s.left);
-    let held_good = held_fits(s.n, s.hold, s.held, held);
-    pair_usable & in_table & !against & wait_good & held_good
+    (pair_usable & in_table & !against & wait_good) && held_fits(s.n, s.hold, s.held, held)
 }
 
 fn conditions_fit(conditions: &[u8]) -> bool

@@ -34,19 +34,19 @@ fn degrade_code(high: bool) -> u8
     if high { DEGRADE_HIGH } else { DEGRADE_LOW }
 }
 
+// Whether it is of high priority is asked for a section that is bad, since most are good.
 pub fn condition(mask: u16, c: u8, x: u8) -> Request
     ensures { λ r. ⌜ r ≡ condition mask c x ⌝ }
 {
-    let is_high = high(mask, c);
     if x == 2 {
         return Request {
-            code: fail_code(is_high),
+            code: fail_code(high(mask, c)),
             channel: c,
         };
     }
     if x == 1 {
         return Request {
-            code: degrade_code(is_high),
+            code: degrade_code(high(mask, c)),
             channel: c,
         };
     }
