@@ -82,29 +82,29 @@ module _ (n : ℕ) (x : Request) (carried : carries requests n (x .code) (x .cha
           subst (Command n x) (sym (ap commandNumber ms)) (on-some 4 0b1000 ms (lit≤ tt) refl refl refl refl high)
 
 -- the closed form for commands, taken apart
-pub commanded-by : (hold x : Request) → commanded hold (held x) ≡ true
-    → (isCommand (x .code) ≡ true) × ((x ≡ hold) ⊎ (replacesHeld hold x ≡ true))
-commanded-by hold x h = go (isCommand (x .code)) refl
+pub commanded-by : (prior x : Request) → commanded prior (held x) ≡ true
+    → (isCommand (x .code) ≡ true) × ((x ≡ prior) ⊎ (replacesHeld prior x ≡ true))
+commanded-by prior x h = go (isCommand (x .code)) refl
   where
-    go : (t : Bool) → isCommand (x .code) ≡ t → (isCommand (x .code) ≡ true) × ((x ≡ hold) ⊎ (replacesHeld hold x ≡ true))
+    go : (t : Bool) → isCommand (x .code) ≡ t → (isCommand (x .code) ≡ true) × ((x ≡ prior) ⊎ (replacesHeld prior x ≡ true))
     go true e =
-        let sent : not (eqb (x .code) 0b0000) && (same x hold || replacesHeld hold x) ≡ true = rw e at h in
-        let which = and-eq-true-iff (not (eqb (x .code) 0b0000)) (same x hold || replacesHeld hold x) .0 sent .1 in
-        (e, ⊎-elim (λ s. inl (same-one x hold s)) inr (or-true (same x hold) (replacesHeld hold x) which))
+        let sent : not (eqb (x .code) 0b0000) && (same x prior || replacesHeld prior x) ≡ true = rw e at h in
+        let which = and-eq-true-iff (not (eqb (x .code) 0b0000)) (same x prior || replacesHeld prior x) .0 sent .1 in
+        (e, ⊎-elim (λ s. inl (same-one x prior s)) inr (or-true (same x prior) (replacesHeld prior x) which))
     go false e = absurd (false≢true (rw e at h))
 
 -- and put together
-pub commanded-of : (hold x : Request) → isCommand (x .code) ≡ true → (x ≡ hold) ⊎ (replacesHeld hold x ≡ true)
-    → commanded hold (held x) ≡ true
-commanded-of hold x e how = rw e (rw (some, which how))
+pub commanded-of : (prior x : Request) → isCommand (x .code) ≡ true → (x ≡ prior) ⊎ (replacesHeld prior x ≡ true)
+    → commanded prior (held x) ≡ true
+commanded-of prior x e how = rw e (rw (some, which how))
   where
     some : eqb (x .code) 0b0000 ≡ false
     some = command-code (x .code) e
 
-    which : (x ≡ hold) ⊎ (replacesHeld hold x ≡ true) → same x hold || replacesHeld hold x ≡ true
+    which : (x ≡ prior) ⊎ (replacesHeld prior x ≡ true) → same x prior || replacesHeld prior x ≡ true
     which (inl is) =
-        let code : eqb (x .code) (hold .code) ≡ true = eq-eqb (x .code) (hold .code) (ap (λ (r : Request). r .code) is) in
-        let channel : eqb (x .channel) (hold .channel) ≡ true =
-        eq-eqb (x .channel) (hold .channel) (ap (λ (r : Request). r .channel) is) in
+        let code : eqb (x .code) (prior .code) ≡ true = eq-eqb (x .code) (prior .code) (ap (λ (r : Request). r .code) is) in
+        let channel : eqb (x .channel) (prior .channel) ≡ true =
+        eq-eqb (x .channel) (prior .channel) (ap (λ (r : Request). r .channel) is) in
         rw (code, channel)
-    which (inr takes) = rw takes (or-right (same x hold) true refl)
+    which (inr takes) = rw takes (or-right (same x prior) true refl)

@@ -34,11 +34,11 @@ pub record Fits (n : ℕ) (conditions : List ℕ) (command c : ℕ) : Type 0 whe
   pub channel-fits : channelFits n command c ≡ true
 
 module _ (mask w left : ℕ) (last : Request) where
-  abbrev pub holdOf : ℕ → Request
-  holdOf command = kept command (held last)
+  abbrev pub priorOf : ℕ → Request
+  priorOf command = kept command (held last)
 
   abbrev pub standsOf : ℕ → ℕ → Request
-  standsOf command c = inForce (replacesHeld (holdOf command) (given command c)) (holdOf command) (given command c)
+  standsOf command c = inForce (replacesHeld (priorOf command) (given command c)) (priorOf command) (given command c)
 
   abbrev pub nowOf : ℕ → ℕ
   nowOf command = waitNow (isClear command) (entersWait last) (isWait (last .code)) w left

@@ -36,10 +36,10 @@ unfolding rankOf
 look-rank k1 within = rank-looked requests k1 within
 
 -- of a request that is no command it does not matter which rank it has
-pub command-ranked : (hold x : Request) → commandedAt (rankOfRequest x) hold (held x) ≡ commanded hold (held x)
-command-ranked hold x = go (isCommand (x .code)) refl
+pub command-ranked : (prior x : Request) → commandedAt (rankOfRequest x) prior (held x) ≡ commanded prior (held x)
+command-ranked prior x = go (isCommand (x .code)) refl
   where
-    go : (t : Bool) → isCommand (x .code) ≡ t → commandedAt (rankOfRequest x) hold (held x) ≡ commanded hold (held x)
+    go : (t : Bool) → isCommand (x .code) ≡ t → commandedAt (rankOfRequest x) prior (held x) ≡ commanded prior (held x)
     go true e = rw e
     go false e = rw e
 

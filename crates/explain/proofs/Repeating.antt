@@ -52,11 +52,11 @@ same-self x = rw (eq-eqb (x .code) (x .code) refl, eq-eqb (x .channel) (x .chann
 
 command-again : (s : Controller) (x : Request) → commandIn s x ≡ true → commanded (held x) (held x) ≡ true
 command-again s x command =
-    let hold = held x in
+    let after = held x in
     let prior = held (asked (s .sent)) in
     let given =
-    and-eq-true-iff (not (eqb (hold .code) 0b0000)) (follows (same hold prior) (rankOfRequest prior) (rankOfRequest hold)) .0 command .0 in
-    rw given (ap (λ (t : Bool). follows t (rankOfRequest hold) (rankOfRequest hold)) (same-self hold))
+    and-eq-true-iff (not (eqb (after .code) 0b0000)) (follows (same after prior) (rankOfRequest prior) (rankOfRequest after)) .0 command .0 in
+    rw given (ap (λ (t : Bool). follows t (rankOfRequest after) (rankOfRequest after)) (same-self after))
 
 -- what is left of the wait behind WTR that is sent again
 left-again : (t : Controller) (now : ℕ) (x : Request) → t .left ≡ leftAfter x now → leftAfter x (waitOf t x 0) ≡ t .left - 1

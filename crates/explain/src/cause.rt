@@ -14,10 +14,10 @@ ghost use Rattle.explain.specs.Cause.{rankHeld, follows, commandedAt, co
 ghost use mathlib.Core.Path.{_≡_};
 
 // The rank of the command that is held, if one is.
-pub(crate) fn rank_held(hold: Request, rank: u8) -> u8
-    ensures { λ r. ⌜ r ≡ rankHeld hold rank ⌝ }
+pub(crate) fn rank_held(command: Request, rank: u8) -> u8
+    ensures { λ r. ⌜ r ≡ rankHeld command rank ⌝ }
 {
-    if hold.code == NOTHING { 0 } else { rank }
+    if command.code == NOTHING { 0 } else { rank }
 }
 
 fn follows(goes: bool, prior: u8, rank: u8) -> bool
@@ -31,10 +31,10 @@ pub(crate) fn commanded(last: Request, prior: u8, x: Request, rank: u8) -> bool
     requires { ⌜ prior ≡ rankOfRequest last ⌝ }
     ensures { λ r. ⌜ r ≡ commandedAt rank (held last) (held x) ⌝ }
 {
-    let hold = held(last);
+    let before = held(last);
     let after = held(x);
     let goes_on = (x.code == last.code) & (x.channel == last.channel);
-    (after.code != NOTHING) & follows(goes_on, rank_held(hold, prior), rank)
+    (after.code != NOTHING) & follows(goes_on, rank_held(before, prior), rank)
 }
 
 fn conditioned(mask: u16, x: Request) -> bool

@@ -52,10 +52,10 @@ returns c =
     let sent = c .before .before .before .before .before .before .before in
     let start = sent .before .before in
     let a = start .args in
-    let hold = sent .before .held .ensures in
+    let was = sent .before .held .ensures in
     let after = sent .held2 .ensures in
     let prior =
-    c .before .rank-held .ensures ∙ (λ i. rankHeld (hold i) (start .pre i)) ∙ held-rank (a .last) in
+    c .before .rank-held .ensures ∙ (λ i. rankHeld (was i) (start .pre i)) ∙ held-rank (a .last) in
     let followed = c .follows .ensures ∙ (λ i. follows (same (a .x) (a .last)) (prior i) (a .rank)) in
     (λ i. not (eqb (after i .code) nothingCode) && followed i) ∙ sent-held (a .last) (a .x) (a .rank)
 
