@@ -1,5 +1,5 @@
 -- `moved` meets its contract: each rule's function is handed what the rules before it gave.
-use mathlib.Core.Path.{_≡_, refl, sym, ap, _∙_}
+use mathlib.Core.Path.{_≡_, refl, sym, _∙_}
 use mathlib.Core.Bool.{Bool, true, false}
 use mathlib.Core.List.{List}
 use Prim.Native.Nat.{ℕ}
@@ -10,10 +10,12 @@ use Rattle.basics.specs.Choice.{if_then_else_}
 use Rattle.basics.proofs.Fitting.{fit-bounds}
 use Rattle.pair.specs.Marks.{alarm}
 use Rattle.pair.proofs.Coding.{alarm-test}
+use Rattle.request.specs.Command.{replaces, fate}
 use Rattle.request.specs.declared.Request.{Request}
+use Rattle.controller.specs.declared.Accepted.{Accepted}
 use Rattle.controller.specs.Rules.{asked, accepting, heldBy, kept, given, replacesHeld, inForce, waiting, localRequest}
-use Rattle.controller.specs.Rules.{rankOfRequest, decided}
-use Rattle.controller.specs.Step.{protection, waitOf, moved, actsOn}
+use Rattle.controller.specs.Rules.{rankOfRequest, decided, heldAfter, counts}
+use Rattle.controller.specs.Step.{protection, waitOf, answering, moved, actsOn}
 use Rattle.controller.proofs.Apart.{wait-kind}
 use Rattle.controller.proofs.Inputs.{WellFormed, well-formed}
 use Rattle.controller.proofs.Alarm.{acts-protection, acts-working, acts-unrefused}
@@ -42,21 +44,18 @@ protects c =
     rw (c .protection .ensures, c .before .alarm .ensures, ← alarm-test (a .s .n) (a .k1) (a .k2))
     (acts-protection (alarm (a .s .n) (a .k1) (a .k2)) (a .conditions .now))
 
--- what is sent, as the rules have it, by the conditions of section 0 and of the working sections
-abbrev sentBy : tie.After-decided → ℕ → List ℕ → Request
-sentBy c protect working =
-    let a = c .before .before .before .before .before .before .before .before .before .before .before .before .before .before .before .before .before .before .before .before .args in
-    let last = asked (a .s .sent) in
-    let prior = kept (a .command) (heldBy (a .s .hold) (a .s .held) last) in
-    let new = given (a .command) (a .c) in
-    let wait = waiting (waitOf (a .s) last (a .command)) last in
-    decided (accepting (a .s) (eqb protect 2) (a .k1) (a .k2) .request)
-    (localRequest (a .s .mask) last protect working (inForce (replacesHeld prior new) prior new) wait)
+-- what the far end asks for
+abbrev farOf : tie.After-accepting → Accepted
+farOf c =
+    let start = c .before .before .before .before .before .before in
+    let a = start .args in
+    accepting (a .s) (eqb (protection (actsOf start)) 2) (a .k1) (a .k2)
 
-abbrev sentOf : tie.After-decided → Request
-sentOf c =
-    let acts = actsOf (c .before .before .before .before .before .before .before .before .before .before .before .before .before .before .before .before .before .before .before .before) in
-    sentBy c (protection acts) (drop 1 acts)
+far-is : (c : tie.After-accepting) → c .accepting .result ≡ farOf c
+far-is c =
+    let seen = c .before .before in
+    let a = seen .before .before .before .before .args in
+    c .accepting .ensures ∙ (λ i. accepting (a .s) (eqb (protects seen i) 2) (a .k1) (a .k2))
 
 -- the held command, after a clear
 abbrev priorOf : tie.After-given → Request
@@ -66,11 +65,10 @@ priorOf c =
 
 prior-is : (c : tie.After-given) → c .before .kept .result ≡ priorOf c
 prior-is c =
-    rw (
-      c .before .kept .ensures,
-      c .before .before .held-by .ensures,
-      c .before .before .before .before .asked .ensures,
-    )
+    let a = c .before .before .before .before .before .before .before .before .before .args in
+    let last = c .before .before .before .before .asked .ensures in
+    let before = c .before .before .held-by .ensures ∙ (λ i. heldBy (a .s .hold) (a .s .held) (last i)) in
+    c .before .kept .ensures ∙ (λ i. kept (a .command) (before i))
 
 abbrev newOf : tie.After-given → Request
 newOf c = let a = c .before .before .before .before .before .before .before .before .before .args in given (a .command) (a .c)
@@ -81,13 +79,9 @@ weighed : (c : tie.After-in-force) →
     c .before .replaces .result ≡ replacesHeld (priorOf told) (newOf told)
 weighed c =
     let told = c .before .before .before .before in
-    rw (
-      c .before .replaces .ensures,
-      c .before .before .rank-of2 .ensures,
-      c .before .before .before .rank-of .ensures,
-      told .given .ensures,
-      prior-is told,
-    )
+    let old = c .before .before .before .rank-of .ensures ∙ (λ i. rankOfRequest (prior-is told i)) in
+    let new = c .before .before .rank-of2 .ensures ∙ (λ i. rankOfRequest (told .given .ensures i)) in
+    c .before .replaces .ensures ∙ (λ i. replaces (old i) (new i))
 
 -- the command in force
 abbrev standsOf : tie.After-given → Request
@@ -96,7 +90,7 @@ standsOf c = inForce (replacesHeld (priorOf c) (newOf c)) (priorOf c) (newOf c)
 stands-is : (c : tie.After-in-force) → c .in-force .result ≡ standsOf (c .before .before .before .before)
 stands-is c =
     let told = c .before .before .before .before in
-    rw (c .in-force .ensures, weighed c, told .given .ensures, prior-is told)
+    c .in-force .ensures ∙ (λ i. inForce (weighed c i) (prior-is told i) (told .given .ensures i))
 
 -- its rank is known by then
 stands-ranked : (c : tie.After-rank-in-force)
@@ -118,26 +112,49 @@ stands-ranked c =
     chosen true = refl
     chosen false = refl
 
+-- the wait of this step
+abbrev nowOf : tie.After-wait-of → ℕ
+nowOf c =
+    let a = c .before .before .before .before .before .before .before .before .before .before .before .before .before .before .before .before .args in
+    waitOf (a .s) (asked (a .s .sent)) (a .command)
+
+now-is : (c : tie.After-wait-of) → c .wait-of .result ≡ nowOf c
+now-is c =
+    let last = c .before .before .before .before .before .before .before .before .before .before .before .asked .ensures in
+    let a = c .before .before .before .before .before .before .before .before .before .before .before .before .before .before .before .before .args in
+    c .wait-of .ensures ∙ (λ i. waitOf (a .s) (last i) (a .command))
+
+-- the local request
+abbrev nearOf : tie.After-local-request → Request
+nearOf c =
+    let start = c .before .before .before .before .before .before .before .before .before .before .before .before .before .before .before .before .before .before in
+    let a = start .args in
+    let acts = actsOf start in
+    let last = asked (a .s .sent) in
+    let told = c .before .before .before .before .before .before .before .before .before in
+    localRequest (a .s .mask) last (protection acts) (drop 1 acts) (standsOf told) (waiting (nowOf (c .before .before)) last)
+
+near-is : (c : tie.After-local-request) → c .local-request .result ≡ nearOf c
+near-is c =
+    let seen = c .before .before .before .before .before .before .before .before .before .before .before .before .before .before in
+    let a = seen .before .before .before .before .args in
+    let last = c .before .before .before .before .before .before .before .before .before .before .before .before .before .asked .ensures in
+    let working = sym (acts-working (alarm (a .s .n) (a .k1) (a .k2)) (a .conditions .now)) in
+    let wait = c .before .waiting .ensures ∙ (λ i. waiting (now-is (c .before .before) i) (last i)) in
+    let stands = stands-is (c .before .before .before .before .before) in
+    c .local-request .ensures
+    ∙ (λ i. localRequest (a .s .mask) (last i) (protects seen i) (working i) (stands i) (wait i))
+
+-- what is sent
+abbrev sentOf : tie.After-decided → Request
+sentOf c =
+    let heard = c .before .before .before .before .before .before .before .before .before .before .before .before .before .before in
+    decided (farOf heard .request) (nearOf (c .before .before))
+
 sent-is : (c : tie.After-decided) → c .decided .result ≡ sentOf c
 sent-is c =
-    let near = c .before .before in
-    let stood = near .before .before .before .before .before in
-    let seen = stood .before .before .before .before .before .before .before .before .before in
-    let a = seen .before .before .before .before .args in
-    let by-parts : c .decided .result ≡ sentBy c (seen .protection .result) (drop 1 (a .conditions .now)) =
-    rw (
-      c .decided .ensures,
-      near .local-request .ensures,
-      near .before .waiting .ensures,
-      near .before .before .wait-of .ensures,
-      stands-is stood,
-      stood .before .before .before .before .before .before .before .accepting .ensures,
-      stood .before .before .before .before .before .before .before .before .asked .ensures,
-    ) in
-    by-parts
-    ∙ ap (λ (p : ℕ). sentBy c p (drop 1 (a .conditions .now))) (protects seen)
-    ∙ ap (sentBy c (protection (actsOf (seen .before .before .before .before))))
-    (sym (acts-working (alarm (a .s .n) (a .k1) (a .k2)) (a .conditions .now)))
+    let heard = c .before .before .before .before .before .before .before .before .before .before .before .before .before .before in
+    c .decided .ensures ∙ (λ i. decided (far-is heard i .request) (near-is (c .before .before) i))
 
 shared-slice-read-handed : tie.Need-shared-slice-read-handed
 shared-slice-read-handed c = let number = well (c .before .before) .number in omega arith
@@ -232,31 +249,23 @@ answering-requires c κs =
     let room = sendable-room (a .s .n) (a .s .mask) now (sentOf (c .before .before)) (well start .fits) able in
     let far = far-channel (a .s) acts (a .command) (a .c) (acts-well start) failed (a .k1) (a .k2) in
     let bounds = fit-bounds (a .s .n) (well start .fits) in
-    rw (
-      sent-is (c .before .before),
-      c .before .before .before .before .before .before .before .before .before .before .before .before .before .before .before .before .accepting .ensures,
-      protects (c .before .before .before .before .before .before .before .before .before .before .before .before .before .before .before .before .before .before),
-    )
-    (room .0, omega arith, omega arith)
+    let heard = c .before .before .before .before .before .before .before .before .before .before .before .before .before .before .before .before in
+    rw (sent-is (c .before .before), far-is heard) (room .0, omega arith, omega arith)
 
 returns : tie.Need-returns
 unfolding moved
 returns c =
+    let gone = c .before .before .before in
     let stood = c .before .before .before .before .before .before .before .before .before .before in
-    rw (
-      c .answering .ensures,
-      c .before .fate .ensures,
-      c .before .before .counts .ensures,
-      sent-is (c .before .before .before),
-      c .before .before .before .before .before .before .before .before .held-after .ensures,
-      weighed stood,
-      stands-is stood,
-      c .before .before .before .before .before .before .before .wait-of .ensures,
-      c .before .before .before .before .before .before .before .before .before .before .before .before .before .before .given .ensures,
-      c .before .before .before .before .before .before .before .before .before .before .before .before .before .before .before .before .before .accepting .ensures,
-      c .before .before .before .before .before .before .before .before .before .before .before .before .before .before .before .before .before .before .asked .ensures,
-      protects (c .before .before .before .before .before .before .before .before .before .before .before .before .before .before .before .before .before .before .before),
-    )
+    let a = c .before .before .before .before .before .before .before .before .before .before .before .before .before .before .before .before .before .before .before .before .before .before .before .args in
+    let heard = c .before .before .before .before .before .before .before .before .before .before .before .before .before .before .before .before .before in
+    let waited = c .before .before .before .before .before .before .before in
+    let held = waited .before .held-after .ensures ∙ (λ i. heldAfter (a .s .hold) (stands-is stood i)) in
+    let new = stood .before .before .before .before .given .ensures in
+    let counted = c .before .before .counts .ensures ∙ (λ i. counts (a .s .hold) (sent-is gone i) (new i)) in
+    let told = c .before .fate .ensures ∙ (λ i. fate (a .command) (weighed stood i) (counted i)) in
+    c .answering .ensures
+    ∙ (λ i. answering (a .s) (far-is heard i) (sent-is gone i) (now-is waited i) (held i) (told i))
 
 pub moved-spec : {M : Type 1} → statement M
 moved-spec =
