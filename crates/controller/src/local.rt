@@ -3,6 +3,7 @@ use crate::asked::rank_of;
 use crate::codes::NO_REQUEST;
 use crate::codes::REVERSE;
 use crate::section::condition;
+use pair::request::rank;
 use request::Request;
 use request::better;
 use request::turn;
@@ -130,7 +131,7 @@ fn beats(a: Request, b: Request) -> bool
     ensures { λ r. ⌜ r ≡ byRank rankOf a b ⌝ }
 {
     // Of what has no rank the other's need not be known.
-    let first = rank_of(a);
+    let first = rank(a.code, a.channel);
     (0 < first) && better(first, a.channel, rank_of(b), b.channel)
 }
 
