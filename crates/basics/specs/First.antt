@@ -1,7 +1,6 @@
 -- Answers that are asked for in an order, as the paper's marks and refusals are: the first that applies is given, and
 -- where none does another; for numbers that is 0.
-use Rattle.std.specs.Prelude.{◌≡◌, Bool, true, false, List, [], ◌∷◌, ℕ, zero, suc, ◌<◌}
-use Rattle.basics.specs.Choice.{if◌then◌else◌}
+use Rattle.std.specs.Prelude.{if◌then◌else◌, ◌≡◌, Bool, true, false, List, [], ◌∷◌, ℕ, zero, suc, ◌<◌}
 
 infix 15 ◌when◌
 -- an answer, and the test by which it applies

@@ -1,5 +1,7 @@
 // Numbers of two and of four bytes, big-endian, read from a slice and written to one. Every place is taken: a byte
 // past the end reads as 0, and is not written. Whether settings fit is in `settings`, whether a capture's size does in `capture`.
+#![tactic(auto)]
+
 pub mod capture;
 pub mod settings;
 
@@ -13,6 +15,7 @@ fn byte_at(s: &[u8], at: usize) -> u8
     if at < s.len() { s[at] } else { 0 }
 }
 
+#[tactic(auto, unfolding(crate::specs::Bytes::two_at))]
 pub fn two_at(s: &[u8], at: usize) -> u16
     ensures { result ≡ two_at s.now at }
 {
@@ -24,6 +27,7 @@ pub fn two_at(s: &[u8], at: usize) -> u16
     }
 }
 
+#[tactic(auto, using(crate::proofs::Bytes::four_past), unfolding(crate::specs::Bytes::four_at))]
 pub fn four_at(s: &[u8], at: usize) -> u32
     ensures { result ≡ four_at s.now at }
 {

@@ -7,7 +7,7 @@ use native.Mathlib.Omega.{arith}
 use lib.Dec.{ltb, eqb}
 use lib.ListN.{length, get_or}
 use borrow.Author.Tests.{leb-true, ltb-false, eqb-true, eqb-false, le-ltb, eq-eqb, not-false}
-use Rattle.basics.specs.Choice.{if◌then◌else◌}
+use Rattle.std.specs.Prelude.{if◌then◌else◌}
 use Rattle.basics.specs.First.{◌when◌, first_of}
 use Rattle.basics.specs.Settings.{sections_fit, mask_fits}
 use Rattle.basics.specs.Table.{every}

@@ -9,7 +9,7 @@ use lib.Dec.{eqb}
 use lib.ListN.{length, get_or, take, drop, replicate}
 use lib.Seq.{sets}
 use Rattle.basics.specs.Bytes.{four_bytes}
-use Rattle.basics.specs.Choice.{if◌then◌else◌}
+use Rattle.std.specs.Prelude.{if◌then◌else◌}
 use Rattle.basics.specs.Fields.{size_of}
 use Rattle.basics.specs.First.{FirstAt, number_of}
 use Rattle.basics.proofs.First.{first_applies}

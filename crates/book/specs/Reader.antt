@@ -1,7 +1,6 @@
 -- Reading a book: refusals 20 to 24, then entry by entry 25, 31, 32, 26 and 27, then 28 (01, 'Numbered refusals'; 02, f
 -- and g).
-use Rattle.std.specs.Prelude.{not, List, [], ◌∷◌, ◌++◌, ℕ, ltb, eqb, length, get_or}
-use Rattle.basics.specs.Choice.{if◌then◌else◌}
+use Rattle.std.specs.Prelude.{if◌then◌else◌, not, List, [], ◌∷◌, ◌++◌, ℕ, ltb, eqb, length, get_or}
 use Rattle.basics.specs.First.{Check, ◌when◌, first_of}
 use Rattle.book.specs.Format.{count_in, entries_of, first_body, body_end, settings_faults, most, places}
 use Rattle.book.specs.declared.Entry.{Entry}

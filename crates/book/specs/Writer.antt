@@ -1,7 +1,6 @@
 -- Writing a book: refusal 23, then entry by entry 25, 31 and 32, then 30, 20, 29 in this order (01, 'Numbered refusals'; 02,
 -- f and g).
-use Rattle.std.specs.Prelude.{not, List, [], ◌∷◌, ◌++◌, ℕ, zero, suc, ◌+◌, ◌*◌, ltb, eqb, length, get_or, drop}
-use Rattle.basics.specs.Choice.{if◌then◌else◌}
+use Rattle.std.specs.Prelude.{if◌then◌else◌, not, List, [], ◌∷◌, ◌++◌, ℕ, zero, suc, ◌+◌, ◌*◌, ltb, eqb, length, get_or, drop}
 use Rattle.basics.specs.First.{Check, ◌when◌, first_of}
 use Rattle.book.specs.Format.{first_body, settings_faults, most, no_entry, book_of}
 use Rattle.book.specs.declared.Entry.{Entry}

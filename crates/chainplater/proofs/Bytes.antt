@@ -10,7 +10,7 @@ use lib.ListN.{length, get_or, take, drop, replicate, drop_of_length-le}
 use lib.Seq.{drop-cons, take_all}
 use borrow.Author.Tests.{leb-true, eqb-true, eqb-false, lt-ltb, lt-leb}
 use Rattle.basics.specs.Bytes.{four_bytes}
-use Rattle.basics.specs.Choice.{if◌then◌else◌}
+use Rattle.std.specs.Prelude.{if◌then◌else◌}
 use Rattle.basics.specs.Fields.{fields_at, field_bytes}
 use Rattle.basics.proofs.Fields.{fields_back, fields_again}
 use Rattle.basics.specs.Settings.{sections_fit, options_fit, hold_of}

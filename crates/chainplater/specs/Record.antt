@@ -1,6 +1,5 @@
 -- A controller's record in bytes, fresh or as a step answers it, and the bytes of that answer (02, g).
-use Rattle.std.specs.Prelude.{true, List, [], ◌∷◌, ◌++◌, ℕ, get_or}
-use Rattle.basics.specs.Choice.{if◌then◌else◌}
+use Rattle.std.specs.Prelude.{if◌then◌else◌, true, List, [], ◌∷◌, ◌++◌, ℕ, get_or}
 use Rattle.basics.specs.Fields.{Width, one, two, fields_at, field_bytes}
 use Rattle.basics.specs.First.{Check, ◌when◌, first_of}
 use Rattle.basics.specs.Settings.{options_fit, hold_of}

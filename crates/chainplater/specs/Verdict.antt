@@ -1,7 +1,6 @@
 -- The judge's answer in bytes, with the causes of an explained capture or without.
-use Rattle.std.specs.Prelude.{◌≡◌, List, ◌∷◌, ℕ, ◌+◌, ◌*◌, eqb, get_or, drop}
+use Rattle.std.specs.Prelude.{cond, if◌then◌else◌, ◌≡◌, List, ◌∷◌, ℕ, ◌+◌, ◌*◌, eqb, get_or, drop}
 use Rattle.basics.specs.Bytes.{two_bytes}
-use Rattle.basics.specs.Choice.{if◌then◌else◌}
 use Rattle.basics.specs.Settings.{options_fit, hold_of}
 use Rattle.explain.specs.Verdict.{Judging, refused_by, Right}
 use Rattle.explain.specs.Causes.{Untouched, Causes}
@@ -20,7 +19,7 @@ pub record Told (Holds : Judging → Type 0) (refusal : ℕ) (out : List ℕ) : 
 -- the right answer by the options; above 1 there are none, which is refusal 25, before every other number
 unfoldable pub RightFor : ℕ → ℕ → ℕ → ℕ → List ℕ → Judging → Type 0
 RightFor n options mask w capture j =
-    if options_fit options then Right n (hold_of options) mask w capture j else (j ≡ refused_by 25)
+    cond (options_fit options) (Right n (hold_of options) mask w capture j) (j ≡ refused_by 25)
 
 abbrev pub Judged : ℕ → ℕ → ℕ → ℕ → List ℕ → ℕ → List ℕ → Type 0
 Judged n options mask w capture refusal out = Told (RightFor n options mask w capture) refusal out

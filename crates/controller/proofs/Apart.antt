@@ -7,7 +7,7 @@ use native.Mathlib.Nat.{not-suc-le-zero}
 use native.Mathlib.Omega.{arith}
 use lib.Dec.{ltb, eqb}
 use borrow.Author.Tests.{eqb-true}
-use Rattle.basics.specs.Choice.{if◌then◌else◌}
+use Rattle.std.specs.Prelude.{if◌then◌else◌}
 use Rattle.pair.specs.Request.{requests, carries, wait_code, nothing_code, rank_in, rank_of}
 use Rattle.pair.specs.Marks.{code_of, channel_of}
 use Rattle.pair.proofs.Ranks.{rank_own}

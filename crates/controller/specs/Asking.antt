@@ -1,6 +1,5 @@
 -- What the functions behind the local request ask of each other and promise each other. No promise outside them cites it.
-use Rattle.std.specs.Prelude.{◌≡◌, Bool, true, List, ◌⊎◌, ℕ, ◌+◌, ◌-◌, ◌<◌, ◌≤◌, eqb, get_or, set}
-use Rattle.basics.specs.Choice.{if◌then◌else◌}
+use Rattle.std.specs.Prelude.{if◌then◌else◌, ◌≡◌, Bool, true, List, ◌⊎◌, ℕ, ◌+◌, ◌-◌, ◌<◌, ◌≤◌, eqb, get_or, set}
 use Rattle.request.specs.Order.{turn}
 use Rattle.request.specs.declared.Request.{Request}
 use Rattle.controller.specs.Rules.{no_request, rank_of_request, condition}

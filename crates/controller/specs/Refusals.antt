@@ -1,6 +1,5 @@
 -- Refusals 1 to 7 of a step (01, 'Numbered refusals'; 02, g).
-use Rattle.std.specs.Prelude.{Bool, true, not, ◌&&◌, ◌||◌, List, [], ◌∷◌, ◌++◌, ℕ, ◌+◌, ltb, leb, eqb, length}
-use Rattle.basics.specs.Choice.{if◌then◌else◌}
+use Rattle.std.specs.Prelude.{if◌then◌else◌, Bool, true, not, ◌&&◌, ◌||◌, List, [], ◌∷◌, ◌++◌, ℕ, ◌+◌, ltb, leb, eqb, length}
 use Rattle.basics.specs.First.{Check, ◌when◌, first_of}
 use Rattle.pair.specs.Request.{fail_high_code, fail_low_code, degrade_high_code, degrade_low_code, requests, carries}
 use Rattle.pair.specs.Marks.{code_of, channel_of, usable}

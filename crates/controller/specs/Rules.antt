@@ -1,7 +1,6 @@
 -- The seven rules of one step (01, 'One step'; 02, c, d and g), in the paper's order. The ranks are those of the table of
 -- requests.
-use Rattle.std.specs.Prelude.{Bool, ◌&&◌, ◌||◌, List, [], ◌∷◌, ◌++◌, ℕ, suc, ◌+◌, ◌*◌, ltb, leb, eqb}
-use Rattle.basics.specs.Choice.{if◌then◌else◌}
+use Rattle.std.specs.Prelude.{if◌then◌else◌, Bool, ◌&&◌, ◌||◌, List, [], ◌∷◌, ◌++◌, ℕ, suc, ◌+◌, ◌*◌, ltb, leb, eqb}
 use Rattle.pair.specs.Request.{lockout_code, forced_code, fail_high_code, fail_low_code, degrade_high_code, degrade_low_code}
 use Rattle.pair.specs.Request.{manual_code, wait_code, reverse_code, nothing_code, rank_of}
 use Rattle.pair.specs.Marks.{code_of, channel_of, bridged_of, usable, mark}

@@ -1,6 +1,5 @@
 -- Settings, and the fresh record (01, 'Settings' and 'One step'; 02, g).
-use Rattle.std.specs.Prelude.{Bool, true, false, List, ℕ, ◌-◌, ◌/◌, ◌%◌, ◌^◌, eqb}
-use Rattle.basics.specs.Choice.{if◌then◌else◌}
+use Rattle.std.specs.Prelude.{if◌then◌else◌, Bool, true, false, List, ℕ, ◌-◌, ◌/◌, ◌%◌, ◌^◌, eqb}
 use Rattle.basics.specs.First.{Check, first_of}
 use Rattle.basics.specs.Settings.{settings_checks}
 use Rattle.controller.specs.declared.Controller.{Controller}

@@ -1,7 +1,6 @@
 -- One step (01, 'One step'; 02, c and g): the refusals, then the seven rules. Three things look at the setting hold: where
 -- the held command is read from, what is held afterwards, and the fate of a command that was held but not sent.
-use Rattle.std.specs.Prelude.{Bool, List, ◌∷◌, ℕ, eqb, get_or, drop}
-use Rattle.basics.specs.Choice.{if◌then◌else◌}
+use Rattle.std.specs.Prelude.{if◌then◌else◌, Bool, List, ◌∷◌, ℕ, eqb, get_or, drop}
 use Rattle.pair.specs.Marks.{alarm}
 use Rattle.request.specs.Command.{fate}
 use Rattle.request.specs.Wait.{wait_now}

@@ -1,6 +1,5 @@
 // The held command and a new one (01, 'One step', rules 2 and 5; 02, g).
-ghost use Rattle.std.specs.Prelude.{◌≤◌, ◌≡◌};
-ghost use Rattle.basics.specs.Choice.{if◌then◌else◌};
+ghost use Rattle.std.specs.Prelude.{if◌then◌else◌, ◌≤◌, ◌≡◌};
 ghost use Rattle.controller.specs.Rules.{is_command, held, held_by, kept, given, in_force, held_after, counts};
 
 use crate::Controller;

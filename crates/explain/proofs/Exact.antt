@@ -11,7 +11,7 @@ use lib.Dec.{ltb, eqb}
 use lib.ListN.{length, take}
 use lib.Seq.{take_all, take-take}
 use borrow.Author.Tests.{ltb-true, ltb-false}
-use Rattle.basics.specs.Choice.{if◌then◌else◌}
+use Rattle.std.specs.Prelude.{if◌then◌else◌}
 use Rattle.basics.specs.First.{Check, first_of}
 use Rattle.basics.specs.Settings.{sections_fit, mask_fits}
 use Rattle.controller.specs.Settings.{fresh}

@@ -8,7 +8,7 @@ use native.Mathlib.Numerals.{add-one}
 use native.Mathlib.Omega.{arith}
 use lib.Dec.{lit<, lit≤}
 use Rattle.basics.specs.Capture.{Row}
-use Rattle.basics.specs.Choice.{if◌then◌else◌}
+use Rattle.std.specs.Prelude.{if◌then◌else◌}
 use Rattle.basics.specs.Settings.{sections_fit, mask_fits}
 use Rattle.basics.specs.Table.{every}
 use Rattle.basics.proofs.Fitting.{fit_bounds}

@@ -11,7 +11,7 @@ use lib.Dec.{eqb, lit≤}
 use lib.ListN.{drop}
 use borrow.Author.Tests.{eqb-true}
 use Rattle.basics.specs.Capture.{Row}
-use Rattle.basics.specs.Choice.{if◌then◌else◌}
+use Rattle.std.specs.Prelude.{if◌then◌else◌}
 use Rattle.basics.specs.Settings.{sections_fit, mask_fits}
 use Rattle.pair.specs.Request.{lockout_code, forced_code, requests, carries, rank_in, rank_of}
 use Rattle.pair.specs.Marks.{code_of}

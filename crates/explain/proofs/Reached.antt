@@ -7,7 +7,7 @@ use native.Mathlib.Omega.{arith}
 use lib.Dec.{eqb}
 use lib.ListN.{length, drop}
 use borrow.Author.Tests.{eqb-true, eq-eqb, le-leb}
-use Rattle.basics.specs.Choice.{if◌then◌else◌}
+use Rattle.std.specs.Prelude.{if◌then◌else◌}
 use Rattle.basics.specs.Settings.{sections_fit, mask_fits}
 use Rattle.pair.specs.Request.{requests, carries}
 use Rattle.pair.specs.Marks.{code_of, channel_of, usable, alarm, mark}

@@ -10,7 +10,7 @@ use lib.Dec.{ltb, leb, eqb}
 use lib.ListN.{drop}
 use borrow.Author.Tests.{ltb-false}
 use Rattle.basics.specs.Capture.{Row}
-use Rattle.basics.specs.Choice.{if◌then◌else◌}
+use Rattle.std.specs.Prelude.{if◌then◌else◌}
 use Rattle.pair.specs.Request.{requests, carries, rank_in, rank_of}
 use Rattle.pair.specs.Marks.{code_of, channel_of, usable}
 use Rattle.request.specs.declared.Request.{Request}

@@ -1,7 +1,6 @@
 -- What some cause makes a controller send: closed forms, over the command held before the step and the one held after it; and
 -- the cause that is shown. The forms `..At` take the rank of what is sent; the others look it up.
-use Rattle.std.specs.Prelude.{Bool, not, ◌&&◌, ◌||◌, List, [], ◌∷◌, ℕ, zero, suc, ltb, leb, eqb}
-use Rattle.basics.specs.Choice.{if◌then◌else◌}
+use Rattle.std.specs.Prelude.{if◌then◌else◌, Bool, not, ◌&&◌, ◌||◌, List, [], ◌∷◌, ℕ, zero, suc, ltb, leb, eqb}
 use Rattle.pair.specs.Request.{lockout_code, forced_code, fail_high_code, reverse_code, nothing_code}
 use Rattle.request.specs.Order.{may_win, better, same}
 use Rattle.request.specs.Command.{replaces}

@@ -1,7 +1,6 @@
 -- The causes that the judge shows of an explained capture (02, a).
-use Rattle.std.specs.Prelude.{◌≡◌, Bool, true, ◌||◌, List, [], ◌∷◌, ◌++◌, ℕ, zero, suc, ◌+◌, ◌/◌, ◌%◌, ◌^◌, ltb, eqb, length, take, drop}
+use Rattle.std.specs.Prelude.{cond, if◌then◌else◌, ◌≡◌, Bool, true, ◌||◌, List, [], ◌∷◌, ◌++◌, ℕ, zero, suc, ◌+◌, ◌/◌, ◌%◌, ◌^◌, ltb, eqb, length, take, drop}
 use Rattle.basics.specs.Capture.{Row, rows_of}
-use Rattle.basics.specs.Choice.{if◌then◌else◌}
 use Rattle.basics.specs.First.{Check, ◌when◌}
 use Rattle.basics.specs.Table.{every}
 use Rattle.controller.specs.Settings.{fresh}
@@ -50,7 +49,7 @@ Untouched old old2 new new2 = (new ≡ old) × (new2 ≡ old2)
 -- the tables afterwards, of conditions and of commands, by the verdict
 abbrev pub Filled : ℕ → Bool → ℕ → ℕ → List ℕ → Judging → List ℕ → List ℕ → List ℕ → List ℕ → Type 0
 Filled n hold mask w bytes j old old2 new new2 =
-    if eqb j.verdict 1 then Shown n hold mask w (rows_of bytes) old old2 new new2 else Untouched old old2 new new2
+    cond (eqb j.verdict 1) (Shown n hold mask w (rows_of bytes) old old2 new new2) (Untouched old old2 new new2)
 
 -- what is promised: the judge's right answer behind these refusals, and the tables by it
 pub record Causes (n : ℕ) (hold : Bool) (mask w : ℕ) (bytes old old2 : List ℕ) (j : Judging) (new new2 : List ℕ)

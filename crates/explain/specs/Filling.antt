@@ -1,9 +1,8 @@
 -- How the tables of causes are filled (02, a). On the way forward a step gets its cause with section 0 not failed, since all
 -- of it but that is known there, and two marks: whether the record with the last usable pair was open before the row, and
 -- whether section 0 may have failed. On the way back each step gets one of the records that were open, and the marks go.
-use Rattle.std.specs.Prelude.{◌≡◌, Bool, true, false, not, ◌&&◌, ◌||◌, List, [], ◌∷◌, ℕ, ◌+◌, ◌*◌, ◌/◌, ◌%◌, ◌^◌, ◌≤◌, eqb, length, take, drop}
+use Rattle.std.specs.Prelude.{if◌then◌else◌, ◌≡◌, Bool, true, false, not, ◌&&◌, ◌||◌, List, [], ◌∷◌, ℕ, ◌+◌, ◌*◌, ◌/◌, ◌%◌, ◌^◌, ◌≤◌, eqb, length, take, drop}
 use Rattle.basics.specs.Capture.{Row, rows_of}
-use Rattle.basics.specs.Choice.{if◌then◌else◌}
 use Rattle.pair.specs.Marks.{alarm_in}
 use Rattle.controller.specs.Rules.{asked}
 use Rattle.controller.specs.Step.{wait_of}

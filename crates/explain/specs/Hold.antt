@@ -1,6 +1,5 @@
 -- The records of a controller with hold and of one without it, beside each other (02, g).
-use Rattle.std.specs.Prelude.{◌≡◌, Bool, true, false, ℕ}
-use Rattle.basics.specs.Choice.{if◌then◌else◌}
+use Rattle.std.specs.Prelude.{if◌then◌else◌, ◌≡◌, Bool, true, false, ℕ}
 use Rattle.pair.specs.Marks.{code_of}
 use Rattle.controller.specs.Settings.{none_held}
 use Rattle.controller.specs.Rules.{asked, k1_of, is_command, held}

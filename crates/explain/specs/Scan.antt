@@ -1,6 +1,5 @@
 -- A scan: rows are taken in one by one, until nothing is left that explains them.
-use Rattle.std.specs.Prelude.{Bool, List, [], ◌∷◌, ℕ, suc}
-use Rattle.basics.specs.Choice.{if◌then◌else◌}
+use Rattle.std.specs.Prelude.{if◌then◌else◌, Bool, List, [], ◌∷◌, ℕ, suc}
 
 -- all rows, as many as this, or the number of the first that leaves nothing
 pub data Scanned : Type 0 where

@@ -1,8 +1,7 @@
 -- What the bytes of a capture leave open of the controller's record, without hold, since hold changes no verdict (02, g; the
 -- front door's `hold_exact`). The K1 last sent and the wait left follow from what was sent. The accepted pair is the last usable
 -- one received or, since section 0 may have failed unseen, 00 08; an alarm that is received shows that it has failed.
-use Rattle.std.specs.Prelude.{◌≡◌, Bool, true, false, not, ◌&&◌, ◌||◌, List, ℕ, ◌-◌, ◌≤◌, ltb, eqb}
-use Rattle.basics.specs.Choice.{if◌then◌else◌}
+use Rattle.std.specs.Prelude.{if◌then◌else◌, ◌≡◌, Bool, true, false, not, ◌&&◌, ◌||◌, List, ℕ, ◌-◌, ◌≤◌, ltb, eqb}
 use Rattle.basics.specs.Settings.{sections_fit}
 use Rattle.pair.specs.Request.{requests, carries}
 use Rattle.pair.specs.Marks.{channel_of, usable, alarm_in}

@@ -1,6 +1,5 @@
 -- What the judge answers (01, 'The judge' and 'Numbered refusals'; 02, g).
-use Rattle.std.specs.Prelude.{◌≡◌, Bool, List, ◌++◌, ◌⊎◌, ℕ, ◌+◌, eqb, length, take}
-use Rattle.basics.specs.Choice.{if◌then◌else◌}
+use Rattle.std.specs.Prelude.{cond, if◌then◌else◌, ◌≡◌, Bool, List, ◌++◌, ◌⊎◌, ℕ, ◌+◌, eqb, length, take}
 use Rattle.basics.specs.First.{Check, first_of}
 use Rattle.controller.specs.Settings.{settings_faults}
 use Rattle.basics.specs.Capture.{Row, rows_of, size_faults}
@@ -47,7 +46,7 @@ Found n hold mask w rows j =
 -- the right answer for a capture, where these are the refusals: the first that applies, or what is found
 unfoldable pub RightBehind : List Check → ℕ → Bool → ℕ → ℕ → List ℕ → Judging → Type 0
 RightBehind faults n hold mask w bytes j =
-    if eqb (first_of faults) 0 then Found n hold mask w (rows_of bytes) j else (j ≡ refused_by (first_of faults))
+    cond (eqb (first_of faults) 0) (Found n hold mask w (rows_of bytes) j) (j ≡ refused_by (first_of faults))
 
 -- that of the judge
 abbrev pub Right : ℕ → Bool → ℕ → ℕ → List ℕ → Judging → Type 0

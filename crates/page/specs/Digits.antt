@@ -1,6 +1,5 @@
 -- Numbers as text, in ASCII. The decimal digits are the kit's own, `digits` of `io`.
-use Rattle.std.specs.Prelude.{List, [], ◌∷◌, ℕ, zero, suc, ◌+◌, ◌*◌, ◌-◌, ◌/◌, ◌%◌, ltb}
-use Rattle.basics.specs.Choice.{if◌then◌else◌}
+use Rattle.std.specs.Prelude.{if◌then◌else◌, List, [], ◌∷◌, ℕ, zero, suc, ◌+◌, ◌*◌, ◌-◌, ◌/◌, ◌%◌, ltb}
 use Rattle.io.specs.Digits.{last_digits}
 
 -- how many decimal digits v has: one, or one more than v / 10 has; counted up to k and one

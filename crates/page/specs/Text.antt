@@ -1,7 +1,6 @@
 -- A text at a place of a page: it is put there whole, or, where the page has no room for it there, not at all.
-use Rattle.std.specs.Prelude.{Bool, List, [], ◌∷◌, ◌++◌, ℕ, ◌+◌, leb, length}
+use Rattle.std.specs.Prelude.{if◌then◌else◌, Bool, List, [], ◌∷◌, ◌++◌, ℕ, ◌+◌, leb, length}
 use Rattle.std.proofs.lemmas.List.Edits.{sets}
-use Rattle.basics.specs.Choice.{if◌then◌else◌}
 use Rattle.page.specs.Digits.{decimal}
 
 abbrev pub has_room : List ℕ → ℕ → List ℕ → Bool

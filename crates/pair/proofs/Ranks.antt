@@ -8,7 +8,7 @@ use native.Mathlib.Omega.{arith}
 use lib.Dec.{eqb, leb, ltb, lit<}
 use lib.ListN.{length, get_or}
 use borrow.Author.Tests.{eqb-true, leb-true, lt-ltb}
-use Rattle.basics.specs.Choice.{if◌then◌else◌}
+use Rattle.std.specs.Prelude.{if◌then◌else◌}
 use Rattle.basics.specs.Table.{every}
 use Rattle.basics.proofs.Table.{at_entry}
 use Rattle.pair.specs.Request.{Channels, zero_only, sections, zero_and_sections, Row, row, requests}

@@ -1,6 +1,5 @@
 -- Decoding and encoding: the numbers that the paper has for each answer, and the case of the enum that holds them.
-use Rattle.std.specs.Prelude.{Bool, true, false, ◌&&◌, ℕ, ◌+◌, ◌*◌, leb, eqb}
-use Rattle.basics.specs.Choice.{if◌then◌else◌}
+use Rattle.std.specs.Prelude.{if◌then◌else◌, Bool, true, false, ◌&&◌, ℕ, ◌+◌, ◌*◌, leb, eqb}
 use Rattle.basics.specs.First.{first_or}
 use Rattle.basics.specs.Settings.{sections_fit}
 use Rattle.pair.specs.Request.{requests, carries}

@@ -1,6 +1,5 @@
 -- The table of requests (01, 'The byte pair'; G.841, Tables 7-1 and 7-2).
-use Rattle.std.specs.Prelude.{Bool, true, false, ◌&&◌, ◌||◌, List, [], ◌∷◌, ℕ, leb, eqb}
-use Rattle.basics.specs.Choice.{if◌then◌else◌}
+use Rattle.std.specs.Prelude.{if◌then◌else◌, Bool, true, false, ◌&&◌, ◌||◌, List, [], ◌∷◌, ℕ, leb, eqb}
 
 -- the request codes, the upper four bits of K1
 abbrev pub lockout_code : ℕ

@@ -1,6 +1,5 @@
 -- The table of K1 values (02, j): a number for each K1, of what a list of rows says of it.
-use Rattle.std.specs.Prelude.{Bool, not, ◌&&◌, List, [], ◌∷◌, ℕ, zero, suc, ◌+◌, ◌*◌, ◌/◌, ◌%◌, leb, eqb}
-use Rattle.basics.specs.Choice.{if◌then◌else◌}
+use Rattle.std.specs.Prelude.{if◌then◌else◌, Bool, not, ◌&&◌, List, [], ◌∷◌, ℕ, zero, suc, ◌+◌, ◌*◌, ◌/◌, ◌%◌, leb, eqb}
 use Rattle.basics.specs.First.{◌when◌, first_or}
 use Rattle.basics.specs.Table.{values}
 use Rattle.pair.specs.Request.{Row, listed, carries, class_of, rank_in}

@@ -1,7 +1,6 @@
 -- Rows that repeat the row before them.
-use Rattle.std.specs.Prelude.{◌≡◌, Bool, true, false, ◌&&◌, List, [], ◌∷◌, ◌⊎◌, ℕ, zero, suc, ◌+◌, ◌-◌, ◌%◌, ◌≤◌, ◌<◌, ltb, eqb, length, get_or, drop}
+use Rattle.std.specs.Prelude.{if◌then◌else◌, ◌≡◌, Bool, true, false, ◌&&◌, List, [], ◌∷◌, ◌⊎◌, ℕ, zero, suc, ◌+◌, ◌-◌, ◌%◌, ◌≤◌, ◌<◌, ltb, eqb, length, get_or, drop}
 use Rattle.basics.specs.Capture.{Row, rows_of, row_at}
-use Rattle.basics.specs.Choice.{if◌then◌else◌}
 
 -- the row before stands four bytes back
 abbrev pub back : ℕ

@@ -1,8 +1,7 @@
 -- The table that is printed of a book (01, 'Sequences on both sides'), as a list of characters.
-use Rattle.std.specs.Prelude.{◌≡◌, List, [], ◌∷◌, ◌++◌, ℕ, ◌+◌, eqb, length, drop}
+use Rattle.std.specs.Prelude.{if◌then◌else◌, ◌≡◌, List, [], ◌∷◌, ◌++◌, ℕ, ◌+◌, eqb, length, drop}
 use Prim.Native.Char.{code}
 use Prim.Native.String.{String, [] as none, ◌∷◌ as ◌then◌}
-use Rattle.basics.specs.Choice.{if◌then◌else◌}
 use Rattle.book.specs.Format.{entries_of, hold_in, body_of}
 use Rattle.book.specs.Reader.{refusal}
 use Rattle.book.specs.declared.Entry.{Entry}

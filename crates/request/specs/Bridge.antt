@@ -1,6 +1,5 @@
 -- The bridge and the selector (01, 'One step', rules 6 and 7).
-use Rattle.std.specs.Prelude.{Bool, ◌||◌, ℕ, eqb}
-use Rattle.basics.specs.Choice.{if◌then◌else◌}
+use Rattle.std.specs.Prelude.{if◌then◌else◌, Bool, ◌||◌, ℕ, eqb}
 
 -- bridged is the channel of the accepted K1, while we send that channel too or keep the bridge
 abbrev pub bridge : ℕ → ℕ → Bool → ℕ

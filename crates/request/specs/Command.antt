@@ -1,6 +1,5 @@
 -- What becomes of a command (01, 'One step', rules 2 and 5). A command has a rank above 0; 0 is the rank of none.
-use Rattle.std.specs.Prelude.{Bool, ◌&&◌, ◌||◌, ℕ, ltb, eqb}
-use Rattle.basics.specs.Choice.{if◌then◌else◌}
+use Rattle.std.specs.Prelude.{if◌then◌else◌, Bool, ◌&&◌, ◌||◌, ℕ, ltb, eqb}
 
 -- where none is held any command comes in; a held one gives way to a higher rank alone
 abbrev pub replaces : ℕ → ℕ → Bool

@@ -1,7 +1,6 @@
 -- Which request is better, and the best of some (01, 'One step', rules 3 and 4; 02, d). The ranks are those of a table that
 -- is handed in.
-use Rattle.std.specs.Prelude.{Bool, true, false, ◌&&◌, ◌||◌, List, [], ◌∷◌, ◌⊎◌, ◌≡◌, ℕ, ◌+◌, ◌<◌, ltb, eqb}
-use Rattle.basics.specs.Choice.{if◌then◌else◌}
+use Rattle.std.specs.Prelude.{if◌then◌else◌, Bool, true, false, ◌&&◌, ◌||◌, List, [], ◌∷◌, ◌⊎◌, ◌≡◌, ℕ, ◌+◌, ◌<◌, ltb, eqb}
 use Rattle.request.specs.declared.Request.{Request}
 
 -- RR and NR, of rank 0, never win

@@ -1,6 +1,5 @@
 -- The steps of wait (01, 'One step', rule 3).
-use Rattle.std.specs.Prelude.{Bool, ℕ, ◌-◌}
-use Rattle.basics.specs.Choice.{if◌then◌else◌}
+use Rattle.std.specs.Prelude.{if◌then◌else◌, Bool, ℕ, ◌-◌}
 
 -- W in the step after a fail or degrade, one less in each step after that; a clear ends it
 abbrev pub wait_now : Bool → Bool → Bool → ℕ → ℕ → ℕ

@@ -8,7 +8,7 @@ use native.Mathlib.Omega.{arith}
 use lib.Dec.{ltb, eqb}
 use lib.ListN.{length, get_or}
 use borrow.Author.Tests.{le-ltb, lt-ltb}
-use Rattle.basics.specs.Choice.{if◌then◌else◌}
+use Rattle.std.specs.Prelude.{if◌then◌else◌}
 use Rattle.switches.specs.Changes.{sent_in, changed, changes}
 use Rattle.switches.specs.Walk.{first_changes, Walks}
 use Rattle.switches.proofs.Below.{lt_or_le}

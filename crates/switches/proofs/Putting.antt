@@ -7,7 +7,7 @@ use native.Mathlib.Omega.{arith}
 use lib.Dec.{eqb}
 use lib.ListN.{length, get_or, set, drop, length-drop, drop_of_length-le}
 use lib.Seq.{sets, length-sets, drop-append-le}
-use Rattle.basics.specs.Choice.{if◌then◌else◌}
+use Rattle.std.specs.Prelude.{if◌then◌else◌}
 use Rattle.basics.proofs.Bytes.{sets_joined}
 use Rattle.switches.specs.Changes.{sent_in, changes}
 use Rattle.switches.specs.Walk.{first_changes, Fits, Put}

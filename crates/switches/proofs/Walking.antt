@@ -7,7 +7,7 @@ use native.Mathlib.Omega.{arith}
 use lib.Dec.{eqb}
 use lib.ListN.{length, get_or, length-append}
 use borrow.Author.Tests.{ne_eqb, eq-eqb}
-use Rattle.basics.specs.Choice.{if◌then◌else◌}
+use Rattle.std.specs.Prelude.{if◌then◌else◌}
 use Rattle.switches.specs.Changes.{sent_in, changed, changes}
 use Rattle.switches.specs.Walk.{first_changes, Walks}
 use Rattle.switches.proofs.Below.{tail, below_next, below_few, below_steps, below_behind}

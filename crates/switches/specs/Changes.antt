@@ -1,8 +1,7 @@
 -- The switches of a capture (02, e): the steps at which the sent K1 differs from the step before, step 0 against 00, in
 -- rising order.
-use Rattle.std.specs.Prelude.{◌≡◌, Bool, not, List, [], ◌∷◌, ◌++◌, map, ℕ, zero, suc, ◌<◌, eqb, length, get_or}
+use Rattle.std.specs.Prelude.{if◌then◌else◌, ◌≡◌, Bool, not, List, [], ◌∷◌, ◌++◌, map, ℕ, zero, suc, ◌<◌, eqb, length, get_or}
 use Rattle.basics.specs.Capture.{Row, rows_of}
-use Rattle.basics.specs.Choice.{if◌then◌else◌}
 
 infix 15 below◌such_that◌
 -- [ i | i < k, test i ]

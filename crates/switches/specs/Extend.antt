@@ -1,9 +1,8 @@
 -- Extending a list of changes: refusals 8, 9, 13, 16, 12, in this order, the number of changes, and the table afterwards
 -- (02, e).
-use Rattle.std.specs.Prelude.{Bool, true, false, not, ◌&&◌, List, [], ◌∷◌, ◌++◌, ℕ, ltb, leb, eqb, length, take, drop}
+use Rattle.std.specs.Prelude.{if◌then◌else◌, Bool, true, false, not, ◌&&◌, List, [], ◌∷◌, ◌++◌, ℕ, ltb, leb, eqb, length, take, drop}
 use Rattle.std.proofs.lemmas.List.Edits.{sets}
 use Rattle.basics.specs.Capture.{size_faults}
-use Rattle.basics.specs.Choice.{if◌then◌else◌}
 use Rattle.basics.specs.First.{Check, ◌when◌, first_of}
 use Rattle.switches.specs.Changes.{sent_in, changes}
 use Rattle.switches.specs.declared.Extending.{Extending}

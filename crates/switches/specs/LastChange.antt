@@ -1,6 +1,5 @@
 -- The last change at or before a step: refusals 8, 9, 13, 16, in this order, and the change, or none (02, e).
-use Rattle.std.specs.Prelude.{not, List, [], ◌∷◌, ◌++◌, ℕ, ◌+◌, eqb, length, get_or}
-use Rattle.basics.specs.Choice.{if◌then◌else◌}
+use Rattle.std.specs.Prelude.{if◌then◌else◌, not, List, [], ◌∷◌, ◌++◌, ℕ, ◌+◌, eqb, length, get_or}
 use Rattle.basics.specs.First.{Check, ◌when◌, first_of}
 use Rattle.switches.specs.Changes.{below◌such_that◌, sent_in, changed, changes}
 use Rattle.switches.specs.Extend.{steps_faults, alike}

@@ -1,6 +1,5 @@
 // The changes from a step on: how many there are, and into the table with them (02, e).
-ghost use Rattle.std.specs.Prelude.{◌+◌, ◌<◌, ltb, length, set, true, ◌≡◌};
-ghost use Rattle.basics.specs.Choice.{if◌then◌else◌};
+ghost use Rattle.std.specs.Prelude.{if◌then◌else◌, ◌+◌, ◌<◌, ltb, length, set, true, ◌≡◌};
 ghost use Rattle.switches.specs.Changes.{sent_in, changes};
 ghost use Rattle.switches.specs.Walk.{first_changes, Walks, Fits, Put};
 

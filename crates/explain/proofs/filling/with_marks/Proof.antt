@@ -3,7 +3,7 @@ use mathlib.Core.Path.{◌≡◌}
 use mathlib.Core.Logic.{⊎_elim}
 use Prim.Native.Nat.{◌+◌, ◌≤◌}
 use native.Mathlib.Omega.{arith}
-use Rattle.basics.specs.Choice.{if◌then◌else◌}
+use Rattle.std.specs.Prelude.{if◌then◌else◌}
 use Rattle.explain.specs.Filling.{heard_place, failed_place}
 use Rattle.explain.proofs.filling.with_marks.Statement.{statement}
 use Rattle.explain.proofs.filling.with_marks.Tie as tie
