@@ -27,8 +27,8 @@ Judged n options mask w capture refusal out = Told (RightFor n options mask w ca
 -- and the one that comes with the tables, of conditions and of commands, as they were and as they are then
 unfoldable pub CausesFor : ℕ → ℕ → ℕ → ℕ → List ℕ → List ℕ → List ℕ → List ℕ → List ℕ → Judging → Type 0
 CausesFor n options mask w capture old old2 new new2 j =
-    if options_fit options then Causes n (hold_of options) mask w capture old old2 j new new2
-    else ((j ≡ refused_by 25) × Untouched old old2 new new2)
+    cond (options_fit options) (Causes n (hold_of options) mask w capture old old2 j new new2)
+        ((j ≡ refused_by 25) × Untouched old old2 new new2)
 
 abbrev pub CausesTold : ℕ → ℕ → ℕ → ℕ → List ℕ → List ℕ → List ℕ → ℕ → List ℕ → List ℕ → List ℕ → Type 0
 CausesTold n options mask w capture old old2 refusal new new2 out =
