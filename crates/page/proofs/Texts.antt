@@ -1,12 +1,12 @@
 -- Laws of a text at a place: with room it stands there, without it the page is as it was.
 use mathlib.Core.Path.{◌≡◌, refl, sym, ap, ◌∙◌}
 use mathlib.Core.Bool.{Bool, true, false}
-use mathlib.Core.List.{List, [], ◌∷◌, ◌++◌}
+use mathlib.Core.List.{List, [], ◌∷◌, ◌++◌, append_assoc}
 use Prim.Native.Nat.{ℕ, ◌+◌, ◌-◌, ◌≤◌, ◌<◌}
 use native.Mathlib.Omega.{arith}
 use lib.Dec.{leb}
 use lib.ListN.{length, take, drop, length-append, length-drop}
-use lib.Seq.{sets, sets-eq, length-sets}
+use lib.Seq.{sets, sets-eq, length-sets, drop-drop}
 use borrow.Author.Tests.{leb-true, leb-false, le-leb, lt-leb}
 use Rattle.basics.proofs.Bytes.{rest_part, back, lent, copied, sets_joined}
 use Rattle.page.specs.Text.{with_text, text_end, with_texts, texts_end, joined, line_start}
@@ -43,6 +43,12 @@ module _ (page : List ℕ) (at : ℕ) (text : List ℕ) where
         → back page at after ≡ with_text page at text
     text_copied after e =
         lent page after text at room (e ∙ copied text rest rest_room) ∙ sym text_put
+
+    -- the part of the page that the text fills, holding the text
+    pub text_filled : (part : List ℕ) (size : ℕ) → size ≡ length text → part ≡ text
+        → take at page ++ (part ++ drop size (drop at page)) ≡ with_text page at text
+    text_filled part size long e =
+        rw (long, e, drop-drop (length text) at page, ← append_assoc (take at page) text (drop (at + length text) page)) (sym text_stands)
 
   module _ (none : length page < at + length text) where
     pub text_dropped : with_text page at text ≡ page

@@ -1,4 +1,4 @@
--- Numbers as text, in ASCII. The decimal digits are the kit's own, `digits` of `io`.
+-- Numbers as text, in ASCII. The decimal digits are the kit's own, `last_digits` of `io`.
 use Rattle.std.specs.Prelude.{if◌then◌else◌, List, [], ◌∷◌, ℕ, zero, suc, ◌+◌, ◌*◌, ◌-◌, ◌/◌, ◌%◌, ltb}
 use Rattle.io.specs.Digits.{last_digits}
 

@@ -1,11 +1,13 @@
 // Text on a page, for the programs that print a line for each step. A page is filled from its start and written whenever it is
 // full. Each function that puts a text takes where it begins and answers where the next one does; a text that the page has no room
 // for is dropped whole.
+#![tactic(auto)]
+
 ghost use Rattle.std.specs.Prelude.{◌+◌, ◌<◌, leb, length, take, ◌≡◌};
 ghost use Rattle.page.specs.Digits.{digit_of, decimal, hexadecimal};
 ghost use Rattle.page.specs.Text.{with_text, text_end, with_texts, texts_end, field, last, line_start};
 
-use libc::STDOUT_FILENO;
+const STDOUT: i32 = 1;
 
 // The page of a program that prints a line for each step. A write for each line would take most of the time, and a page for
 // all of them more than 600,000 bytes.
@@ -26,7 +28,7 @@ pub fn put(page: &mut [u8], at: usize, text: &[u8]) -> usize
     ensures page_after { page.new ≡ with_text page.old at text.now }
 {
     if has_room(page.len(), at, text.len()) {
-        bytes::copy(text, &mut page[at..]);
+        page[at..at + text.len()].copy_from_slice(text);
         at + text.len()
     } else {
         at
@@ -91,6 +93,6 @@ pub fn next_line(page: &[u8], at: usize, longest: usize) -> usize
     if has_room(page.len(), at, longest) {
         return at;
     }
-    io::write_all(STDOUT_FILENO, front(page, at));
+    io::write_all(STDOUT, front(page, at));
     0
 }

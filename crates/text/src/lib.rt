@@ -1,4 +1,5 @@
 // Text on standard output, for the programs. Nothing can be promised of what is written; each function is safe and ends.
+#![tactic(auto)]
 
 pub fn print(s: &[u8]) {
     io::write_all(1, s);
