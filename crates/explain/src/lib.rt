@@ -16,7 +16,7 @@ use basics::capture::size_refusal;
 use controller::{Controller, Made};
 
 // Explained, with the number of steps; unexplained, with the first step up to which there is no explanation; a refusal.
-#[derive(Drop)]
+#[derive(Clone, Copy)]
 pub enum Verdict {
     Explained(u16),
     Unexplained(u16),
@@ -81,7 +81,7 @@ pub fn judge_causes(
 }
 
 // The records that the bytes so far leave open: this one, if `heard`, and this one with the idle pair accepted, if `idle`.
-#[derive(Drop)]
+#[derive(Clone, Copy)]
 pub(crate) struct Records {
     pub controller: Controller,
     pub heard: bool,
@@ -90,7 +90,7 @@ pub(crate) struct Records {
 
 // The pair that is accepted behind a row unless section 0 has failed: the received one, if it fits, else the one before; and
 // the rank of what it asks for.
-#[derive(Drop)]
+#[derive(Clone, Copy)]
 pub(crate) struct Heard {
     pub fits: bool,
     pub k1: u8,

@@ -1,4 +1,6 @@
 // The coder of the K1/K2 bytes (01, 'The byte pair'; G.841, Tables 7-1 and 7-2).
+#![tactic(auto)]
+
 pub mod mark;
 pub mod request;
 pub mod table;
@@ -12,7 +14,7 @@ use crate::table::{carried, listed_in, number_for, usable_in};
 use basics::settings::sections_fit;
 
 // What a usable pair holds.
-#[derive(Drop)]
+#[derive(Clone, Copy)]
 pub struct Pair {
     pub code: u8,
     pub channel: u8,
@@ -22,7 +24,7 @@ pub struct Pair {
 
 // What a pair decodes to: the record of a usable pair, the mark of an unusable one, the alarm of line bits 111 (02, c),
 // or a refusal.
-#[derive(Drop)]
+#[derive(Clone, Copy)]
 pub enum Decoded {
     Usable(Pair),
     Marked(u8),
@@ -31,7 +33,7 @@ pub enum Decoded {
 }
 
 // What a record is encoded to: K1 and K2, or a refusal.
-#[derive(Drop)]
+#[derive(Clone, Copy)]
 pub enum Encoded {
     Bytes(u8, u8),
     Refused(u8),
@@ -39,7 +41,7 @@ pub enum Encoded {
 
 // What the table of K1 values holds of one (02, j): its rank and the least and the greatest n for which it is usable, or the
 // mark 3 or 4 where no n makes it so.
-#[derive(Drop)]
+#[derive(Clone, Copy)]
 pub struct Value {
     pub rank: u8,
     pub least: u8,

@@ -1,6 +1,6 @@
 -- Laws of 'better' and of 'best'. Those of 'best' hold for every order that is irreflexive and transitive, and what needs more
 -- for all `Orders`.
-use mathlib.Core.Path.{◌≡◌, refl, sym, ap, ◌∙◌}
+use mathlib.Core.Path.{◌≡◌, refl, sym, ap, subst, ◌∙◌}
 use mathlib.Core.Bool.{Bool, true, false, ◌&&◌, ◌||◌, and-eq-true_iff, true≢false}
 use mathlib.Core.List.{List, [], ◌∷◌, ◌++◌}
 use mathlib.Core.Logic.{◌⊎◌, inl, inr, ⊎_elim}
@@ -124,9 +124,13 @@ module _ (order : Request → Request → Bool) where
           → (best order x xs ≡ x) ⊎ OneOf (best order x xs) xs
           → (best order none xs ≡ none) ⊎ OneOf (best order none xs) xs
           → (best order none (x ∷ xs) ≡ none) ⊎ OneOf (best order none (x ∷ xs)) (x ∷ xs)
-      go true e first rest = rw e (inr first)
+      go true e first rest =
+          let same : best order none (x ∷ xs) ≡ best order x xs = rw e refl in
+          inr (subst (λ (b : Request). (b ≡ x) ⊎ OneOf b xs) (sym same) first)
       go false e first (inl same) = rw e (inl same)
-      go false e first (inr among) = rw e (inr (inr among))
+      go false e first (inr among) =
+          let same : best order none (x ∷ xs) ≡ best order none xs = rw e refl in
+          inr (inr (subst (λ (b : Request). OneOf b xs) (sym same) among))
 
   -- what holds of each candidate, and of what stands if there is none, holds of the best
   pub best_has : (P : Request → Type 0) (xs : List Request) (none : Request) → P none → Each P xs

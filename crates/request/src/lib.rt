@@ -1,4 +1,6 @@
 // The decision of one step, on ranks and channels alone (01, 'One step', rules 2 to 7).
+#![tactic(auto)]
+
 ghost use Rattle.request.specs.Bridge.{bridge, selector};
 ghost use Rattle.request.specs.Command.{replaces, fate};
 ghost use Rattle.request.specs.Order.{better, turn};
@@ -6,7 +8,7 @@ ghost use Rattle.request.specs.Wait.{wait_now};
 ghost use Rattle.std.specs.Prelude.{◌-◌, ◌≡◌};
 
 // What is asked for, by its code in a table of requests, and for which channel.
-#[derive(Drop)]
+#[derive(Clone, Copy)]
 pub struct Request {
     pub code: u8,
     pub channel: u8,

@@ -15,14 +15,14 @@ use crate::change::{over_room, put_changes};
 use crate::list::{lists, passed};
 
 // The number of changes of the whole capture, or a refusal.
-#[derive(Drop)]
+#[derive(Clone, Copy)]
 pub enum Extending {
     Extended(u16),
     Refused(u8),
 }
 
 // The step of the last change at or before the given one, or that there is none, or a refusal.
-#[derive(Drop)]
+#[derive(Clone, Copy)]
 pub enum Looking {
     Change(u16),
     NoChange,
