@@ -1,5 +1,5 @@
 -- What the sections ask for, one by one, and the ranks of it.
-use mathlib.Core.Path.{◌≡◌, refl, sym, ap, ◌∙◌}
+use mathlib.Core.Path.{◌≡◌, refl, sym, ap, subst, ◌∙◌}
 use mathlib.Core.Bool.{Bool, true, false}
 use mathlib.Core.List.{List, [], ◌∷◌}
 use mathlib.Core.Logic.{inl, inr, ⊎_elim}
@@ -39,9 +39,10 @@ module _ (mask : ℕ) where
   asked_conditions : (i : ℕ) (xs : List ℕ) (k : ℕ) → k < length xs
       → OneOf (condition mask (i + k) (get_or xs k 0)) (conditions_from mask i xs)
   asked_conditions i [] k h = absurd (not-suc-le-zero h)
-  asked_conditions i (x ∷ xs) zero h = inl (rw (add-zero i))
+  asked_conditions i (x ∷ xs) zero h = inl (ap (λ (c : ℕ). condition mask c x) (add-zero i))
   asked_conditions i (x ∷ xs) (suc k) h =
-      inr (rw (add-suc i k, ← suc-add i k) (asked_conditions (suc i) xs k (le_of_suc-le-suc h)))
+      let P : ℕ → Type 0 = λ c. OneOf (condition mask c (get_or xs k 0)) (conditions_from mask (suc i) xs) in
+      inr (subst P (suc-add i k ∙ sym (add-suc i k)) (asked_conditions (suc i) xs k (le_of_suc-le-suc h)))
 
   -- what is asked for by conditions is asked for by some section, and the other way round
   pub some_section : (y : Request) (xs : List ℕ) → OneOf y (conditions_from mask 0 xs)

@@ -6,32 +6,23 @@ use mathlib.Core.Logic.{inl, inr}
 use Prim.Native.Nat.{ℕ}
 use native.Mathlib.Omega.{arith}
 use lib.Dec.{leb-zero}
-use denote.Enum.Declared.{tag_of}
-use types.Run.{OneOf}
 use Rattle.basics.specs.Settings.{sections_fit}
 use Rattle.pair.specs.Request.{requests, carries}
 use Rattle.pair.specs.Marks.{code_of, channel_of, usable}
 use Rattle.pair.specs.Coder.{decoding_case, pair_of, decoding}
 use Rattle.pair.specs.declared.Decoded.{Decoded}
+use Rattle.pair.specs.declared.Pair.{Pair}
 use Rattle.pair.specs.declared.Decoded.TheVariants as decoded
-use Rattle.pair.specs.contracts.Decoded.{the_type}
 use Rattle.pair.proofs.Coding.{nothing_found, fit_decoding, usable_parts, parts_usable}
 use Rattle.controller.specs.Settings.{idle_k2}
 
 -- an answer that is not the usable case comes of a pair that is not usable
 pub other_unusable : (n k1 k2 : ℕ) (d : Decoded) → sections_fit n ≡ true → d ≡ decoding_case (decoding n k1 k2)
-    → OneOf (1 ∷ 2 ∷ 3 ∷ []) (tag_of the_type d) → usable n k1 k2 ≡ false
+    → ((p : Pair) → d ≡ decoded.Usable p → ⊥) → usable n k1 k2 ≡ false
 other_unusable n k1 k2 d fits e other = go (usable n k1 k2) refl
   where
-    tag : OneOf (1 ∷ 2 ∷ 3 ∷ []) 0 → ⊥
-    tag (inl h) = omega arith
-    tag (inr (inl h)) = omega arith
-    tag (inr (inr h)) = omega arith
-
     go : (t : Bool) → usable n k1 k2 ≡ t → usable n k1 k2 ≡ false
-    go true t =
-        let given : d ≡ decoded.Usable (pair_of k1 k2) = e ∙ fit_decoding n k1 k2 fits (nothing_found n k1 k2 t) in
-        absurd (tag (subst (λ (x : Decoded). OneOf (1 ∷ 2 ∷ 3 ∷ []) (tag_of the_type x)) given other))
+    go true t = absurd (other (pair_of k1 k2) (e ∙ fit_decoding n k1 k2 fits (nothing_found n k1 k2 t)))
     go false t = t
 
 -- with the idle K2, a pair is usable where its K1 is in the table

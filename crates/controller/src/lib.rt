@@ -1,4 +1,6 @@
 // The controller: one end of a bidirectional, revertive 1:n group (01, 'Settings' and 'One step'; 02, g).
+#![tactic(auto)]
+
 mod acceptance;
 mod answer;
 pub mod asked;
@@ -22,7 +24,7 @@ use request::Request;
 
 // The settings n, hold, mask and W; the accepted pair; the K1 last sent; the steps of wait left; the held command as a K1,
 // where the setting hold keeps it.
-#[derive(Drop)]
+#[derive(Clone, Copy)]
 pub struct Controller {
     pub n: u8,
     pub hold: bool,
@@ -89,14 +91,14 @@ impl Controller {
 }
 
 // A fresh record, or a refusal.
-#[derive(Drop)]
+#[derive(Clone, Copy)]
 pub enum Made {
     Fresh(Controller),
     Refused(u8),
 }
 
 // The pair that a step has accepted: its bytes, what it asks for, the channel it bridges; and the mark of the received.
-#[derive(Drop)]
+#[derive(Clone, Copy)]
 pub(crate) struct Accepted {
     pub k1: u8,
     pub k2: u8,
@@ -106,7 +108,7 @@ pub(crate) struct Accepted {
 }
 
 // What a step answers.
-#[derive(Drop)]
+#[derive(Clone, Copy)]
 pub struct Outcome {
     pub refusal: u8,
     pub controller: Controller,

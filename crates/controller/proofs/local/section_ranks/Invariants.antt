@@ -1,0 +1,12 @@
+use Rattle.std.proofs.Common.{◌≡◌, ◌∷◌, ◌≤◌, ◌-◌, length, drop}
+use Rattle.controller.specs.Asking.{Ranked}
+use Rattle.controller.proofs.local.section_ranks.Given as goal
+
+abbrev pub invariant-loop-c : goal.invariant-loop-c
+invariant-loop-c l =
+    (Ranked l.mask (l.protection ∷ drop 1 l.conditions) l.last l.ranks l.c l.past_last × (length l.ranks ≡ 16))
+    × (1 ≤ l.c)
+    × (l.c ≤ length l.conditions)
+
+abbrev pub decreases-loop-c : goal.decreases-loop-c
+decreases-loop-c l = length l.conditions - l.c
