@@ -1,5 +1,7 @@
 // The rows of a capture that repeat the row before them. On a line that is at rest all do, so bytes alone are compared, and many
 // at a time.
+#![tactic(auto)]
+
 ghost use Rattle.std.specs.Prelude.{◌+◌, ◌≤◌, length, ◌≡◌};
 ghost use Rattle.repeats.specs.Repeats.{alike, Uniform, Past, Run, repeated};
 
@@ -12,6 +14,7 @@ const ROW: usize = 4;
 const BLOCK: usize = 64;
 
 // It looks at every byte, also behind one that differs: a loop that never leaves early is compiled to few wide comparisons.
+#[tactic(auto, using(crate::proofs::Pieces::alike_on))]
 fn alike(capture: &[u8], piece: usize, at: usize, size: usize) -> bool
     requires { (piece + size ≤ length capture.now) × (at + size ≤ length capture.now) }
     ensures { result ≡ alike capture.now piece at size }
@@ -26,6 +29,7 @@ fn alike(capture: &[u8], piece: usize, at: usize, size: usize) -> bool
 }
 
 // Goes on by pieces of one size, up to a place, while each is the one that stands at `piece`, whose rows are all the same.
+#[tactic(auto, using(crate::proofs::Pieces::gone_start))]
 fn past(capture: &[u8], piece: usize, from: usize, size: usize, to: usize) -> usize
     requires { Uniform capture.now piece size × (from ≤ to) × (to ≤ length capture.now) }
     ensures { Past capture.now piece from size to result }

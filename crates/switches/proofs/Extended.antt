@@ -60,6 +60,10 @@ module _ (bytes : List ℕ) (listed count : ℕ) (table : List ℕ) where
     pub list_refused : ours ≡ false → Promised (answer.Refused 16) table
     list_refused other = refused 16 (sym (behind ∙ rw other)) (λ e. omega arith)
 
+    -- and so the table stays
+    pub list_refused_table : ours ≡ false → table ≡ extended bytes listed count table
+    list_refused_table other = (list_refused other).1
+
     module _ (theirs : ours ≡ true) where
       equal : (count ≤ length table) × (take count table ≡ first_changes bytes listed)
       equal = lists_equal bytes listed table count (steps_walk bytes listed none) theirs
@@ -81,6 +85,11 @@ module _ (bytes : List ℕ) (listed count : ℕ) (table : List ℕ) where
           → more ≡ true → Promised (answer.Refused 12) table
       room_refused more e is =
           refused 12 (sym (behind ∙ rw (theirs, more_is more e ∙ is))) (λ z. omega arith)
+
+      pub room_refused_table : (more : Bool)
+          → more ≡ ltb (length (first_changes bytes listed) + length table) (count + length (changes (sent_in bytes)))
+          → more ≡ true → table ≡ extended bytes listed count table
+      room_refused_table more e is = (room_refused more e is).1
 
       pub fits : (more : Bool)
           → more ≡ ltb (length (first_changes bytes listed) + length table) (count + length (changes (sent_in bytes)))

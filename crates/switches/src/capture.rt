@@ -34,6 +34,7 @@ fn sent_at(capture: &[u8], step: usize) -> u8
 }
 
 // Before step 0 stands 00.
+#[tactic(auto, using(crate::proofs::Sent::before_back))]
 pub(crate) fn sent_before(capture: &[u8], step: usize) -> u8
     requires { length capture.now % 4 ≡ 0 }
     ensures { result ≡ get_or (0 ∷ sent_in capture.now) step 0 }

@@ -55,6 +55,7 @@ fn put_change(table: &mut [u16], number: usize, step: u16, changed: bool) -> usi
 }
 
 // Puts the changes from a step on behind the `known` entries, and answers how many entries there are then.
+#[tactic(auto, using(crate::proofs::Sent::past_steps, crate::proofs::Putting::putting_done))]
 pub(crate) fn put_changes(capture: &[u8], from: usize, known: usize, table: &mut [u16]) -> usize
     requires { Fits capture.now from known table.old }
     ensures { Put capture.now known result table.old table.new }

@@ -1,5 +1,7 @@
 // The switches of a capture (02, e): the steps at which the sent K1 differs from the step before. Sent K1 bytes alone are
 // looked at, so no settings are taken.
+#![tactic(auto)]
+
 mod capture;
 mod change;
 mod list;
@@ -44,6 +46,7 @@ pub fn extend(capture: &[u8], listed: u16, count: u16, table: &mut [u16]) -> Ext
 
 // The steps that are listed are walked to check the list, and the others to list them, so that each is looked at once; in a
 // table with fewer entries than there are steps left, the others are counted before.
+#[tactic(auto, using(crate::proofs::Refusals::steps_walk, crate::proofs::Extended::list_refused, crate::proofs::Extended::list_refused_table, crate::proofs::Extended::room_refused, crate::proofs::Extended::room_refused_table, crate::proofs::Extended::fits))]
 fn extend_whole(capture: &[u8], listed: usize, count: usize, table: &mut [u16]) -> Extending
     requires { (first_of (steps_faults capture.now listed) ≡ 0) × (count < 65536) }
     ensures answers { Answers extending_told extending_case (extending capture.now listed count table.old) result }
@@ -73,6 +76,7 @@ pub fn last_change(capture: &[u8], list: &[u16], step: u16) -> Looking
 }
 
 // The whole list is checked, also behind the step.
+#[tactic(auto, using(crate::proofs::Sent::sent_long, crate::proofs::Refusals::steps_walk, crate::proofs::Looked::list_refused, crate::proofs::Looked::rising, crate::proofs::Looked::no_change, crate::proofs::Looked::change_found))]
 fn look_up(capture: &[u8], list: &[u16], step: u16) -> Looking
     requires { first_of (steps_faults capture.now (step + 1)) ≡ 0 }
     ensures { Answers looking_told looking_case (looking capture.now list.now step) result }

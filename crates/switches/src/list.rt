@@ -17,6 +17,7 @@ fn is_next(table: &[u16], count: usize, number: usize, step: usize) -> bool
 }
 
 // Whether the first `count` entries of the table are exactly the changes among the first steps.
+#[tactic(auto, using(crate::proofs::Checking::checking_fails, crate::proofs::Checking::checking_done))]
 pub(crate) fn lists(capture: &[u8], steps: usize, table: &[u16], count: usize) -> bool
     requires { Walks capture.now steps }
     ensures { result ≡ lists table.now count (take steps (sent_in capture.now)) }
@@ -42,6 +43,7 @@ pub(crate) fn lists(capture: &[u8], steps: usize, table: &[u16], count: usize) -
 }
 
 // How many entries are at most the step. The list rises, so that these are its first ones, and halving finds them.
+#[tactic(auto, using(crate::proofs::Halving::halving_start, crate::proofs::Halving::halving_up, crate::proofs::Halving::halving_down, crate::proofs::Halving::halving_done, crate::proofs::Halving::middle_inside))]
 pub(crate) fn passed(list: &[u16], step: u16) -> usize
     requires { Rising list.now }
     ensures { Passed list.now step result }
