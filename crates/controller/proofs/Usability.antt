@@ -1,10 +1,7 @@
 -- Laws of the decoder's answer, as the rule on the accepted pair and refusal 3 use them.
-use mathlib.Core.Path.{◌≡◌, refl, sym, subst, ◌∙◌}
+use mathlib.Core.Path.{◌≡◌, refl, sym, ◌∙◌}
 use mathlib.Core.Bool.{Bool, true, false, false≢true}
-use mathlib.Core.List.{[], ◌∷◌}
-use mathlib.Core.Logic.{inl, inr}
 use Prim.Native.Nat.{ℕ}
-use native.Mathlib.Omega.{arith}
 use lib.Dec.{leb-zero}
 use Rattle.basics.specs.Settings.{sections_fit}
 use Rattle.pair.specs.Request.{requests, carries}

@@ -1,5 +1,5 @@
 -- Each rule's function is handed what the rules before it gave.
-use Rattle.std.proofs.Common.{rules, arith, ◌≡◌, refl, sym, ◌∙◌, ap, Bool, true, false, List, [], ◌∷◌, ℕ, ◌≤◌, drop, eqb, if◌then◌else◌, length}
+use Rattle.std.proofs.Common.{arith, ◌≡◌, refl, sym, ◌∙◌, Bool, true, false, List, [], ◌∷◌, ℕ, ◌≤◌, drop, eqb, if◌then◌else◌}
 use Rattle.basics.proofs.Fitting.{fit_bounds}
 use Rattle.pair.specs.Marks.{alarm, alarm_in}
 use Rattle.pair.proofs.Coding.{alarm_test}

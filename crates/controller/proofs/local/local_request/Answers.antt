@@ -1,7 +1,7 @@
-use Rattle.std.proofs.Common.{rules, arith, ◌≡◌, refl, sym, ◌∙◌, ℕ, ◌<◌}
+use Rattle.std.proofs.Common.{rules, arith, ◌≡◌, refl, sym, ◌∙◌}
 use Rattle.controller.proofs.Sections.{as_long}
-use Rattle.controller.proofs.Nest.{first_asked, none_found, none_passed, one_passed}
-use Rattle.controller.proofs.Nest.{command_hit, wait_hit, hit_within, section_hit, next_rank}
+use Rattle.controller.proofs.Nest.{first_asked, none_found}
+use Rattle.controller.proofs.Nest.{command_hit, wait_hit, section_hit, next_rank}
 use Rattle.controller.proofs.local.local_request.Goals as goal
 
 pub ranks-init : goal.ranks-init

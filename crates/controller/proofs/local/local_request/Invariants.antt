@@ -1,7 +1,7 @@
 -- No candidate has a rank above the asked one, and nobody whose turn came before has it.
 use Rattle.std.proofs.Common.{◌≡◌, ℕ, ◌<◌, ◌-◌, List, drop}
 use Rattle.request.specs.declared.Request.{Request}
-use Rattle.controller.specs.Rules.{rank_of_request, no_request}
+use Rattle.controller.specs.Rules.{no_request}
 use Rattle.controller.proofs.Nest.{Nest, Worked, Asked, Passed}
 use Rattle.controller.proofs.local.local_request.Given as goal
 

@@ -1,4 +1,4 @@
-use Rattle.std.proofs.Common.{rules, arith, ◌≡◌, sym, ap, ◌∙◌, ◌∷◌, ℕ, ◌≤◌, ◌<◌, zero-le, List, length, drop, replicate, slice_index}
+use Rattle.std.proofs.Common.{rules, arith, ◌≡◌, sym, ap, ◌∙◌, ◌∷◌, ℕ, ◌≤◌, zero-le, List, length, drop, slice_index}
 use lib.ListN.{length-replicate}
 use Rattle.controller.specs.Asking.{asks}
 use Rattle.controller.specs.Rules.{condition}

@@ -1,7 +1,7 @@
 -- Behind each check that did not apply, the refusal is the first of those that are left.
-use Rattle.std.proofs.Common.{rules, ◌≡◌, refl, sym, ◌∙◌, ℕ, ◌+◌, ◌<◌, ◌≤◌, List, true, length, drop, eqb, eq-eqb, if◌then◌else◌}
+use Rattle.std.proofs.Common.{◌≡◌, refl, sym, ◌∙◌, ℕ, ◌+◌, ◌≤◌, List, true, length, drop, eqb, eq-eqb, if◌then◌else◌}
 use borrow.Author.Tests.{ne_eqb, lt-ltb, le-ltb}
-use Rattle.basics.specs.First.{first_of, Check}
+use Rattle.basics.specs.First.{first_of}
 use Rattle.basics.specs.Settings.{settings_checks}
 use Rattle.basics.proofs.Fitting.{settings_fit_lem}
 use Rattle.controller.specs.Refusals.{acceptable, conditions_fit, step_faults, refusal}
