@@ -34,6 +34,7 @@ fn four(high: u16, low: u16) -> u32
 }
 
 // With the 12 bytes required, no byte's place is tested when the program runs; so too in `put_place`.
+#[tactic(auto, unfolding(crate::specs::Format::entry_in, basics::specs::Bytes::two_at, basics::specs::Bytes::four_at))]
 pub(crate) fn entry_in(part: &[u8]) -> Entry
     requires { 12 ≤ length part.now }
     ensures { result ≡ entry_in part.now }
@@ -68,9 +69,9 @@ pub(crate) fn put_entry(entry: &[u8], part: &mut [u8], at: u32)
     ensures { part.new ≡ sets part.old 0 (entry_bytes (placed_at at (entry_in entry.now))) }
 {
     let mut held = [0u8; 12];
-    bytes::copy(&entry[..12], &mut held);
+    held.copy_from_slice(&entry[..12]);
     put_place(&mut held, at);
-    bytes::copy(&held, part);
+    part[..12].copy_from_slice(&held);
 }
 
 pub(crate) fn put_body(body: &[u8], part: &mut [u8])
@@ -79,6 +80,6 @@ pub(crate) fn put_body(body: &[u8], part: &mut [u8])
 {
     let size = body.len();
     let mut held = [0u8; MOST];
-    bytes::copy(body, &mut held[..size]);
-    bytes::copy(&held[..size], part);
+    held[..size].copy_from_slice(body);
+    part[..size].copy_from_slice(&held[..size]);
 }
