@@ -64,6 +64,7 @@ fn put_place(part: &mut [u8], at: u32)
 
 // An entry is taken up, placed and put down, and so is a body without being placed: as nothing is written before all is
 // read, the compiler makes one move of it, and the table for what is taken up goes.
+#[tactic(auto, using(crate::proofs::Held::put_front, crate::proofs::Laid::entry_placed, crate::proofs::Laid::length_entry))]
 pub(crate) fn put_entry(entry: &[u8], part: &mut [u8], at: u32)
     requires { (12 ≤ length entry.now) × (12 ≤ length part.old) }
     ensures { part.new ≡ sets part.old 0 (entry_bytes (placed_at at (entry_in entry.now))) }

@@ -32,7 +32,7 @@ unfolding contents_in
 returns-then-other c =
     (simp (ne_eqb _ _ c.if-other.true))
     ∙ checks_behind (contents_in c.args.contents.now) (length c.args.bodies.now) c.args.room c.if-count-gt64.false
-    c.settings_in-settings.result c.settings_in-settings.ensures c.if-settings-ne0.false c.steps_in.result
+    c.settings_in-settings.result c.settings_in-settings.ensures (search rules) c.steps_in.result
     c.first_body.result c.steps_in.ensures.0 c.first_body.ensures
 
 pub returns-then-above : goal.returns-then-above
@@ -40,7 +40,7 @@ unfolding contents_in
 returns-then-above c =
     (simp (eq-eqb _ _ c.if-other.false, lt-ltb _ _ c.if-above.true))
     ∙ checks_behind (contents_in c.args.contents.now) (length c.args.bodies.now) c.args.room c.if-count-gt64.false
-    c.settings_in-settings.result c.settings_in-settings.ensures c.if-settings-ne0.false c.steps_in.result
+    c.settings_in-settings.result c.settings_in-settings.ensures (search rules) c.steps_in.result
     c.first_body.result c.steps_in.ensures.0 c.first_body.ensures
 
 pub returns-then-short : goal.returns-then-short
@@ -48,7 +48,7 @@ unfolding contents_in
 returns-then-short c =
     (simp (eq-eqb _ _ c.if-other.false, le-ltb _ _ c.if-above.false, lt-ltb _ _ c.if-short.true))
     ∙ checks_behind (contents_in c.args.contents.now) (length c.args.bodies.now) c.args.room c.if-count-gt64.false
-    c.settings_in-settings.result c.settings_in-settings.ensures c.if-settings-ne0.false c.steps_in.result
+    c.settings_in-settings.result c.settings_in-settings.ensures (search rules) c.steps_in.result
     c.first_body.result c.steps_in.ensures.0 c.first_body.ensures
 
 pub returns : goal.returns
@@ -56,5 +56,5 @@ unfolding contents_in
 returns c =
     (simp (eq-eqb _ _ c.if-other.false, le-ltb _ _ c.if-above.false, le-ltb _ _ c.if-short.false))
     ∙ checks_behind (contents_in c.args.contents.now) (length c.args.bodies.now) c.args.room c.if-count-gt64.false
-    c.settings_in-settings.result c.settings_in-settings.ensures c.if-settings-ne0.false c.steps_in.result
+    c.settings_in-settings.result c.settings_in-settings.ensures (search rules) c.steps_in.result
     c.first_body.result c.steps_in.ensures.0 c.first_body.ensures
