@@ -34,6 +34,7 @@ fn four(high: u16, low: u16) -> u32
 }
 
 // With the 12 bytes required, no byte's place is tested when the program runs; so too in `put_place`.
+#[tactic(auto, unfolding(crate::specs::Format::entry_in, basics::specs::Bytes::two_at, basics::specs::Bytes::four_at))]
 pub(crate) fn entry_in(part: &[u8]) -> Entry
     requires { 12 ≤ length part.now }
     ensures { result ≡ entry_in part.now }
@@ -63,14 +64,15 @@ fn put_place(part: &mut [u8], at: u32)
 
 // An entry is taken up, placed and put down, and so is a body without being placed: as nothing is written before all is
 // read, the compiler makes one move of it, and the table for what is taken up goes.
+#[tactic(auto, using(crate::proofs::Held::put_front, crate::proofs::Laid::entry_placed, crate::proofs::Laid::length_entry))]
 pub(crate) fn put_entry(entry: &[u8], part: &mut [u8], at: u32)
     requires { (12 ≤ length entry.now) × (12 ≤ length part.old) }
     ensures { part.new ≡ sets part.old 0 (entry_bytes (placed_at at (entry_in entry.now))) }
 {
     let mut held = [0u8; 12];
-    bytes::copy(&entry[..12], &mut held);
+    held.copy_from_slice(&entry[..12]);
     put_place(&mut held, at);
-    bytes::copy(&held, part);
+    part[..12].copy_from_slice(&held);
 }
 
 pub(crate) fn put_body(body: &[u8], part: &mut [u8])
@@ -79,6 +81,6 @@ pub(crate) fn put_body(body: &[u8], part: &mut [u8])
 {
     let size = body.len();
     let mut held = [0u8; MOST];
-    bytes::copy(body, &mut held[..size]);
-    bytes::copy(&held[..size], part);
+    held[..size].copy_from_slice(body);
+    part[..size].copy_from_slice(&held[..size]);
 }

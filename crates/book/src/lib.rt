@@ -1,4 +1,6 @@
 // Reader and writer of capture books (01, 'Capture book' and refusals 20 to 30; 02, f: 31 and 32, g: hold).
+#![tactic(auto)]
+
 mod format;
 mod listing;
 mod reader;
@@ -24,7 +26,7 @@ pub const STEPS: usize = MOST / 4;
 
 // One capture: its settings n, mask and W with a spare byte, which is 1 for hold and else 0; the offset of its body and the
 // number of its steps.
-#[derive(Drop)]
+#[derive(Clone, Copy)]
 pub struct Entry {
     pub n: u8,
     pub spare: u8,

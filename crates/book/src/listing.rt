@@ -8,5 +8,6 @@ pub(crate) fn put_listed(out: &mut [u8], count: u8, entries: &[u8])
     ensures { out.new ≡ sets out.old 0 (count ∷ entries.now) }
 {
     out[0] = count;
-    bytes::copy(entries, &mut out[1..]);
+    let end = 1 + entries.len();
+    out[1..end].copy_from_slice(entries);
 }

@@ -84,6 +84,7 @@ fn rest_refusal(book: &[u8]) -> u8
     0
 }
 
+#[tactic(auto, using(crate::proofs::Entries::head_refused))]
 pub(crate) fn refusal_of(book: &[u8]) -> u8
     ensures { result ≡ refusal book.now }
 {
@@ -91,6 +92,7 @@ pub(crate) fn refusal_of(book: &[u8]) -> u8
     if head == 0 { rest_refusal(book) } else { head }
 }
 
+#[tactic(auto, using(crate::proofs::Entries::accepted, crate::proofs::Entries::not_accepted, crate::proofs::Entries::head_accepted))]
 pub(crate) fn count_of(book: &[u8], number: u8) -> u8
     requires { number ≡ refusal book.now }
     ensures { result ≡ (reading book.now).contents.count }

@@ -10,6 +10,7 @@ use crate::format::{MOST, body_size, entry_in, first_body, put_body, put_entry};
 use crate::settings::settings_refusal_of;
 
 // Entry by entry, the settings of those that count.
+#[tactic(auto, using(crate::proofs::Counted::ask_start, crate::proofs::Counted::ask_next, crate::proofs::Counted::ask_refused, crate::proofs::Counted::ask_done, basics::proofs::Bytes::rest_part))]
 fn settings_in(contents: &[u8]) -> u8
     requires { (length contents.now ≡ 769) × ((contents_in contents.now).count ≤ 64) }
     ensures { result ≡ first_of (entries_faults (counted (contents_in contents.now))) }
