@@ -1,4 +1,6 @@
 // The judge of captured lines (01, 'The judge'; 02, g). It sees bytes alone.
+#![tactic(auto)]
+
 mod cause;
 mod filling;
 mod shown;
