@@ -36,21 +36,21 @@ pub struct Entry {
     pub steps: u16,
 }
 
-#[derive(Drop)]
+#[derive(Clone, Copy)]
 pub struct Contents {
     pub count: u8,
     pub entries: [Entry; 64],
 }
 
 // The contents of a book, or a refusal with zeros. (No enum: one of those cannot hold an array.)
-#[derive(Drop)]
+#[derive(Clone, Copy)]
 pub struct Reading {
     pub refusal: u8,
     pub contents: Contents,
 }
 
 // The number of bytes written, or a refusal.
-#[derive(Drop)]
+#[derive(Clone, Copy)]
 pub enum Writing {
     Written(usize),
     Refused(u8),
