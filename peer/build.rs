@@ -5,7 +5,7 @@ use std::env;
 use std::path::Path;
 
 /// What is shipped, and the machine that it is made for.
-const SHIPPED: &str = "../target/staticlib";
+const SHIPPED: &str = "../crates/chainplater/out";
 const MACHINE: &str = "x86_64";
 
 /// What `peer/here` makes for a machine that is another.

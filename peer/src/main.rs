@@ -102,7 +102,7 @@ usage: peer sequences | trials | k1 | judge | explain | switches
        peer books [PROGRAM] | lists [PROGRAM] | causes [PROGRAM] | compare | bench";
 
 const MISSING: &str = "\
-peer: built without target/staticlib/libchainplater.a, which is for x86-64 alone
+peer: built without crates/chainplater/out/libchainplater.a, which is for x86-64 alone
 peer: `peer/run` builds the archive, links it and runs `compare` and `bench`";
 
 type Printer = BufWriter<StdoutLock<'static>>;

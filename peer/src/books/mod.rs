@@ -21,7 +21,7 @@ use crate::programs::{by_bytes, group, Comparison, Group, Kind, Reading};
 use capture::{bind, Capture};
 
 pub const COMPARISON: Comparison = Comparison {
-    program: "target/bin/judge",
+    program: "crates/judge/out/judge",
     groups: &GROUPS,
     read: |book| Reading::of(Table::of(book), kind),
     hold: by_bytes,

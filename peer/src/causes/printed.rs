@@ -10,7 +10,7 @@ use crate::controller::{self, Record};
 use crate::programs::{Comparison, Difference, Kind, Lines, Reading};
 
 pub const COMPARISON: Comparison = Comparison {
-    program: "target/bin/causes",
+    program: "crates/causes/out/causes",
     groups: &books::GROUPS,
     read: |book| Reading::of(Table::of(book), |lines| kind(lines)),
     hold: by_replay,

@@ -10,7 +10,7 @@ use crate::programs::{by_bytes, group, Comparison, Group, Kind, Reading};
 use crate::switches::table::{Change, Table};
 
 pub const COMPARISON: Comparison = Comparison {
-    program: "target/bin/switchlist",
+    program: "crates/switchlist/out/switchlist",
     groups: &GROUPS,
     read: |book| Reading::of(Table::of(book), |changes| kind(changes)),
     hold: by_bytes,

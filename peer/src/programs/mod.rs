@@ -19,7 +19,7 @@ use std::path::Path;
 
 /// A program, the books it is put to, and the words for what comes of them.
 pub struct Comparison {
-    /// The proved program itself, which `rt check` builds, on the machine that it is
+    /// The proved program itself, which `rt run` builds, on the machine that it is
     /// compiled for; elsewhere another file has to be named. The scripts at the root
     /// are not compared here: they look for changes of the source on every run, and say
     /// so, which for thousands of books would take many minutes.
