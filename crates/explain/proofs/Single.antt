@@ -1,5 +1,5 @@
 -- Laws of conditions of which at most one is bad.
-use mathlib.Core.Path.{◌≡◌, refl, ap}
+use mathlib.Core.Path.{◌≡◌, refl, sym, ap, subst, ◌∙◌}
 use mathlib.Core.Bool.{true, false}
 use mathlib.Core.List.{◌∷◌}
 use mathlib.Core.Logic.{◌⊎◌, inl, inr, ⊎_elim}
@@ -51,6 +51,7 @@ module _ (mask : ℕ) where
 
   pub only_there : (k i c v : ℕ) → c < k → OneOf (condition mask (i + c) v) (conditions_from mask i (only k c v))
   only_there zero i c v h = absurd (not-suc-le-zero h)
-  only_there (suc k) i zero v h = inl (rw (add-zero i))
+  only_there (suc k) i zero v h = inl (ap (λ (at : ℕ). condition mask at v) (add-zero i))
   only_there (suc k) i (suc c) v h =
-      inr (rw (add-suc i c, ← suc-add i c) (only_there k (suc i) c v (le_of_suc-le-suc h)))
+      let P : ℕ → Type 0 = λ at. OneOf (condition mask at v) (conditions_from mask (suc i) (only k c v)) in
+      inr (subst P (suc-add i c ∙ sym (add-suc i c)) (only_there k (suc i) c v (le_of_suc-le-suc h)))

@@ -1,6 +1,6 @@
 -- The tables of causes, by the verdict: filled where the capture is explained, and else as they were.
 use mathlib.Core.Path.{◌≡◌, refl, sym, ap, subst, ◌∙◌}
-use mathlib.Core.Bool.{Bool, true, false}
+use mathlib.Core.Bool.{Bool, true, false, cond}
 use mathlib.Core.Logic.{⊎_elim}
 use mathlib.Core.List.{List, ◌++◌}
 use Prim.Native.Nat.{ℕ, ◌/◌, ◌≤◌}
@@ -103,7 +103,7 @@ module _ {n : ℕ} {hold : Bool} {mask w : ℕ} {bytes old old2 : List ℕ} {j :
   fixed = go (eqb j.verdict 1) refl causes.tables
     where
       go : (t : Bool) → eqb j.verdict 1 ≡ t
-          → (if t then Shown n hold mask w (rows_of bytes) old old2 new new2 else Untouched old old2 new new2)
+          → cond t (Shown n hold mask w (rows_of bytes) old old2 new new2) (Untouched old old2 new new2)
           → (fixed_in j new ≡ fixed_in j old) × (fixed_in j new2 ≡ fixed_in j old2)
       go true e shown = rw (e, explained_all e) (shown.conditions_behind, shown.commands_behind)
       go false e same = rw e same
