@@ -46,6 +46,7 @@ fn waited(now: u16, last: Request, x: Request) -> bool
     (x.code == WAIT_TO_RESTORE) & (x.channel == last.channel) & (1 <= now)
 }
 
+#[tactic(auto, unfolding(crate::specs::Cause::arises))]
 pub(crate) fn arises(mask: u16, command: bool, now: u16, last: Request, x: Request) -> bool
     ensures { result ≡ arises mask command now last x }
 {
@@ -55,6 +56,7 @@ pub(crate) fn arises(mask: u16, command: bool, now: u16, last: Request, x: Reque
 }
 
 // Section 0 has failed, unseen under LO.
+#[tactic(auto, unfolding(crate::specs::Cause::unseen))]
 pub(crate) fn unseen(command: bool, x: Request) -> bool
     ensures { result ≡ unseen command x }
 {
