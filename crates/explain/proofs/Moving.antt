@@ -13,7 +13,7 @@ use Rattle.request.specs.Bridge.{bridge}
 use Rattle.request.specs.declared.Request.{Request}
 use Rattle.controller.specs.Rules.{asked, k1_of, accepting, held_by, kept, given, replaces_held, in_force, waiting, local_request}
 use Rattle.controller.specs.Rules.{decided, held_after, left_after, keeps_bridge, k2_of}
-use Rattle.controller.specs.Refusals.{acceptable, channel_fits, refusal}
+use Rattle.controller.specs.Refusals.{acceptable, channel_fits}
 use Rattle.controller.specs.Step.{protection, wait_of, moved, acts_on}
 use Rattle.controller.specs.declared.Controller.{Controller}
 use Rattle.controller.specs.declared.Outcome.{Outcome}

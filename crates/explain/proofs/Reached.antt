@@ -19,7 +19,7 @@ use Rattle.request.proofs.Channels.{bridge_within}
 use Rattle.controller.specs.Settings.{idle_k1, idle_k2, none_held}
 use Rattle.controller.specs.Rules.{asked, k1_of, rank_of_request, accepted, accepting, held, held_by, is_wait, waiting}
 use Rattle.controller.specs.Rules.{local_request, decided, held_after, left_after, keeps_bridge, k2_of}
-use Rattle.controller.specs.Refusals.{acceptable, refusal}
+use Rattle.controller.specs.Refusals.{acceptable}
 use Rattle.controller.specs.Step.{protection, wait_of, moved}
 use Rattle.controller.specs.declared.Controller.{Controller}
 use Rattle.controller.specs.declared.Outcome.{Outcome}

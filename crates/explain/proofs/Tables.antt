@@ -10,7 +10,6 @@ use lib.ListN.{length, take}
 use lib.Seq.{take-length}
 use borrow.Author.Tests.{ltb-false, le-ltb, eqb-true, eqb-false}
 use Rattle.basics.specs.Capture.{Row, rows_of, size_faults}
-use Rattle.std.specs.Prelude.{if◌then◌else◌}
 use Rattle.basics.specs.First.{Check, first_of}
 use Rattle.basics.proofs.First.{none_exact, first_behind, first_before}
 use Rattle.basics.specs.Settings.{sections_fit, mask_fits}

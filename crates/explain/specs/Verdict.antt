@@ -1,5 +1,5 @@
 -- What the judge answers (01, 'The judge' and 'Numbered refusals'; 02, g).
-use Rattle.std.specs.Prelude.{cond, if◌then◌else◌, ◌≡◌, Bool, List, ◌++◌, ◌⊎◌, ℕ, ◌+◌, eqb, length, take}
+use Rattle.std.specs.Prelude.{cond, ◌≡◌, Bool, List, ◌++◌, ◌⊎◌, ℕ, ◌+◌, eqb, length, take}
 use Rattle.basics.specs.First.{Check, first_of}
 use Rattle.controller.specs.Settings.{settings_faults}
 use Rattle.basics.specs.Capture.{Row, rows_of, size_faults}
