@@ -1,11 +1,11 @@
 -- Laws of texts on a page: one that is copied to its place stands there, and two of them, the second behind the first, are one.
 use mathlib.Core.Path.{◌≡◌, refl, sym, ap, subst, ◌∙◌}
-use mathlib.Core.List.{List, ◌++◌}
+use mathlib.Core.List.{List, ◌++◌, append_assoc}
 use Prim.Native.Nat.{ℕ, ◌+◌, ◌-◌, ◌≤◌}
 use native.Mathlib.Nat.{zero-add}
 use native.Mathlib.Omega.{arith}
 use lib.ListN.{length, take, drop, length-append, length-drop}
-use lib.Seq.{sets, sets-eq, length-sets}
+use lib.Seq.{sets, sets-eq, length-sets, drop-drop}
 use Rattle.basics.proofs.Bytes.{rest_part, back, lent, copied, sets_joined}
 use Rattle.report.specs.Put.{Room, Put}
 
@@ -20,6 +20,18 @@ module _ (page : List ℕ) (at : ℕ) (text : List ℕ) (room : Room page at tex
   pub text_put : (after : List ℕ) → after ≡ take (length text) text ++ drop (length text) rest
       → Put page at text (back page at after) (at + length text)
   text_put after e = record { stands = lent page after text at room.fits (e ∙ copied text rest rest_room); ends = refl }
+
+-- the part of the page that the text fills, holding the text
+pub text_filled : (page : List ℕ) (at : ℕ) (text : List ℕ) → Room page at text → (part : List ℕ) (size : ℕ)
+    → size ≡ length text → part ≡ text
+    → Put page at text (take at page ++ (part ++ drop size (drop at page))) (at + length text)
+text_filled page at text room part size long e =
+    record {
+      stands =
+          rw (long, e, drop-drop (length text) at page, sets-eq text page at room.fits)
+          (sym (append_assoc (take at page) text (drop (at + length text) page)));
+      ends = refl;
+    }
 
 pub put_long : {page after text : List ℕ} {at end : ℕ} → Put page at text after end → length after ≡ length page
 put_long {page} {after} {text} {at} p = ap length p.stands ∙ length-sets page at text

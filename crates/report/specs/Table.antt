@@ -1,5 +1,5 @@
 -- The table that is printed of a book (01, 'Sequences on both sides'), as a list of characters.
-use Rattle.std.specs.Prelude.{if◌then◌else◌, ◌≡◌, List, [], ◌∷◌, ◌++◌, ℕ, ◌+◌, eqb, length, drop}
+use Rattle.std.specs.Prelude.{cond, ◌≡◌, List, [], ◌∷◌, ◌++◌, ℕ, ◌+◌, eqb, length, drop}
 use Prim.Native.Char.{code}
 use Prim.Native.String.{String, [] as none, ◌∷◌ as ◌then◌}
 use Rattle.book.specs.Format.{entries_of, hold_in, body_of}
@@ -56,11 +56,11 @@ AreVerdicts book (e ∷ entries) [] = ⊥
 -- the text of a book's table: the header and the lines; of a refused book the one line `refused N`, without header
 unfoldable pub IsTable : List ℕ → List ℕ → Type 0
 IsTable book text =
-    if eqb (refusal book) 0
-    then ((verdicts : List Verdict)
+    cond (eqb (refusal book) 0)
+    ((verdicts : List Verdict)
     × AreVerdicts book (entries_of book) verdicts
     × (text ≡ header ++ lines_text 0 (entries_of book) verdicts))
-    else (text ≡ ending (chars "refused ") (refusal book))
+    (text ≡ ending (chars "refused ") (refusal book))
 
 -- what is promised of the page, as it was before and as it is after: the text at its start, behind it what was there; and the
 -- answer is the text's length

@@ -1,4 +1,6 @@
 // The table of a book as `judge` prints it (01, 'Sequences on both sides').
+#![tactic(auto)]
+
 mod line;
 
 ghost use Rattle.report.specs.Put.{Opened};

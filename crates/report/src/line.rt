@@ -12,7 +12,7 @@ pub(crate) fn put(page: &mut [u8], at: usize, text: &[u8]) -> usize
     requires { Room page.old at text.now }
     ensures { Put page.old at text.now page.new result }
 {
-    bytes::copy(text, &mut page[at..]);
+    page[at..at + text.len()].copy_from_slice(text);
     at + text.len()
 }
 
