@@ -1,7 +1,7 @@
 -- Laws behind the front door: records in bytes and back, a refused step's bytes, a refused write's, flags, and the judge's
 -- one answer.
 use mathlib.Core.Path.{◌≡◌, refl, sym, ap, ◌∙◌}
-use mathlib.Core.Bool.{Bool, true, false, and-false}
+use mathlib.Core.Bool.{Bool, true, false, and-false, cond}
 use mathlib.Core.List.{List, [], ◌∷◌}
 use Prim.Native.Nat.{ℕ, zero, suc, ◌+◌, ◌*◌, ◌/◌, ◌%◌, ◌<◌}
 use native.Mathlib.Omega.{arith}
@@ -238,8 +238,8 @@ right_one : (n options mask w : ℕ) (capture : List ℕ) (j k : Judging) → Ri
 unfolding RightFor
 right_one n options mask w capture j k = go (options_fit options)
   where
-    go : (t : Bool) → (if t then Right n (hold_of options) mask w capture j else (j ≡ refused_by 25))
-        → (if t then Right n (hold_of options) mask w capture k else (k ≡ refused_by 25)) → j ≡ k
+    go : (t : Bool) → cond t (Right n (hold_of options) mask w capture j) (j ≡ refused_by 25)
+        → cond t (Right n (hold_of options) mask w capture k) (k ≡ refused_by 25) → j ≡ k
     go true p q = answer_one n (hold_of options) mask w (judge_faults n mask (length capture)) capture j k p q
     go false p q = p ∙ sym q
 
@@ -270,10 +270,10 @@ module _ (n options mask w : ℕ) (capture old old2 new new2 after after2 : List
       refused {table = table} e same = ap (λ (m : Judging). fixed_in m table) e ∙ same
 
       go : (t : Bool)
-          → (if t then Causes n (hold_of options) mask w capture old old2 j new new2
-          else ((j ≡ refused_by 25) × Untouched old old2 new new2))
-          → (if t then Causes n (hold_of options) mask w capture old old2 k after after2
-          else ((k ≡ refused_by 25) × Untouched old old2 after after2))
+          → cond t (Causes n (hold_of options) mask w capture old old2 j new new2)
+          ((j ≡ refused_by 25) × Untouched old old2 new new2)
+          → cond t (Causes n (hold_of options) mask w capture old old2 k after after2)
+          ((k ≡ refused_by 25) × Untouched old old2 after after2)
           → Decides
       go true p q = let tables = fixed_one p q in (verdict_one p q, tables.0, tables.1)
       go false p q = (

@@ -28,7 +28,7 @@ Judged n options mask w capture refusal out = Told (RightFor n options mask w ca
 unfoldable pub CausesFor : ℕ → ℕ → ℕ → ℕ → List ℕ → List ℕ → List ℕ → List ℕ → List ℕ → Judging → Type 0
 CausesFor n options mask w capture old old2 new new2 j =
     cond (options_fit options) (Causes n (hold_of options) mask w capture old old2 j new new2)
-        ((j ≡ refused_by 25) × Untouched old old2 new new2)
+    ((j ≡ refused_by 25) × Untouched old old2 new new2)
 
 abbrev pub CausesTold : ℕ → ℕ → ℕ → ℕ → List ℕ → List ℕ → List ℕ → ℕ → List ℕ → List ℕ → List ℕ → Type 0
 CausesTold n options mask w capture old old2 refusal new new2 out =

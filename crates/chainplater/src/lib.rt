@@ -1,4 +1,6 @@
 // The door for C and Rust: numbers and bytes alone. `include/chainplater.h` says the same to a C programmer.
+#![tactic(auto)]
+
 mod record;
 
 ghost use Rattle.basics.specs.Bytes.{two_bytes, four_bytes};

@@ -10,6 +10,7 @@ use basics::two_at;
 use controller::{Controller, Outcome};
 
 // Of options above 1 nothing is told here: a record that has them is refused before it is read.
+#[tactic(auto, unfolding(crate::specs::Record::record_in))]
 pub(crate) fn record_in(bytes: &[u8; 12]) -> Controller
     ensures { result ≡ record_in bytes.now }
 {
@@ -26,6 +27,7 @@ pub(crate) fn record_in(bytes: &[u8; 12]) -> Controller
     }
 }
 
+#[tactic(auto, unfolding(crate::specs::Record::record_bytes))]
 pub(crate) fn record_bytes(s: Controller) -> [u8; 12]
     ensures { result ≡ record_bytes s }
 {
