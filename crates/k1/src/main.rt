@@ -1,4 +1,6 @@
 // Prints the table of K1 values as data, a line for each K1 (02, j).
+#![tactic(auto)]
+
 use pair::table::value_of;
 use text::{print, print_byte, print_hex, print_labelled};
 

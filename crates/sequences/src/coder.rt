@@ -4,7 +4,7 @@ use pair::{Decoded, Encoded, Pair, decode, encode};
 use text::{print, print_byte, print_digit, print_labelled, print_list, print_number};
 
 // Which byte of the pair a grid goes through, and for how many sections.
-#[derive(Drop)]
+#[derive(Clone, Copy)]
 struct Grid {
     n: u8,
     of_k1: bool,

@@ -1,4 +1,6 @@
 // Prints what the paper's tables and sequences come to, for comparison with the stored output and with the peer.
+#![tactic(auto)]
+
 mod coder;
 mod hold;
 mod refusals;

@@ -31,7 +31,7 @@ fn print_all_fresh() {
 }
 
 // A step that is to be taken: the first `count` of the conditions are handed in.
-#[derive(Drop)]
+#[derive(Clone, Copy)]
 struct Trial {
     s: Controller,
     first: u8,

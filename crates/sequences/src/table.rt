@@ -4,7 +4,7 @@ use controller::Controller;
 use text::{print, print_byte, print_labelled, print_list};
 
 // One end: its record, the bytes that it sent last, and its selector.
-#[derive(Drop)]
+#[derive(Clone, Copy)]
 struct End {
     s: Controller,
     k1: u8,
@@ -12,7 +12,7 @@ struct End {
     selector: u8,
 }
 
-#[derive(Drop)]
+#[derive(Clone, Copy)]
 struct Ends {
     row: u8,
     c: End,

@@ -6,7 +6,7 @@ use text::{print, print_byte, print_labelled, print_list, print_number};
 const STEPS: u32 = 20000;
 
 // Where a walk stands: the number last drawn, the record, and what was counted.
-#[derive(Drop)]
+#[derive(Clone, Copy)]
 struct Walk {
     x: u64,
     s: Controller,
@@ -18,7 +18,7 @@ struct Walk {
 }
 
 // A drawn pair, and the number that was drawn last.
-#[derive(Drop)]
+#[derive(Clone, Copy)]
 struct Input {
     x: u64,
     k1: u8,
@@ -26,7 +26,7 @@ struct Input {
 }
 
 // A drawn command, and the number that was drawn last.
-#[derive(Drop)]
+#[derive(Clone, Copy)]
 struct Order {
     x: u64,
     command: u8,

@@ -1,5 +1,5 @@
 -- Behind each check that did not apply, the finding is the first of those that are left.
-use Rattle.std.proofs.Common.{◌≡◌, refl, sym, ◌∙◌, List, ℕ, ◌/◌, ◌%◌, drop, true, false, ◌&&◌, not, eqb}
+use Rattle.std.proofs.Common.{◌≡◌, refl, rules, sym, ◌∙◌, List, ℕ, ◌/◌, ◌%◌, drop, true, false, ◌&&◌, not, eqb}
 use Rattle.basics.specs.Answer.{Answers}
 use Rattle.basics.specs.First.{CheckFor, first_or}
 use Rattle.basics.specs.Settings.{sections_fit}
@@ -65,14 +65,14 @@ returns-then-line-eq7 c =
     let a = c.args in
     let fits = sym c.sections_fit-n_fits.ensures ∙ c.if-not-n_fits.false in
     by_finding a.number a.n a.k2 a.k1 fits alarmed
-    (left_1 a.number a.n a.k2 c.if-k2-eq0.false ∙ search tests) refl
+    (left_1 a.number a.n a.k2 (search rules) ∙ search tests) refl
 
 pub returns-then-line : goal.returns-then-line
 returns-then-line c =
     let a = c.args in
     let fits = sym c.sections_fit-n_fits.ensures ∙ c.if-not-n_fits.false in
     by_finding a.number a.n a.k2 a.k1 fits (marked 2)
-    (left_2 a.number a.n a.k2 c.if-k2-eq0.false c.if-line-eq7.false ∙ simp c.if-line.true) refl
+    (left_2 a.number a.n a.k2 (search rules) (search rules) ∙ simp c.if-line.true) refl
 
 pub returns-then-not-code_listed : goal.returns-then-not-code_listed
 returns-then-not-code_listed c =
@@ -80,33 +80,33 @@ returns-then-not-code_listed c =
     let fits = sym c.sections_fit-n_fits.ensures ∙ c.if-not-n_fits.false in
     let other = sym c.listed_in-code_listed.ensures ∙ c.if-not-code_listed.true in
     by_finding a.number a.n a.k2 a.k1 fits (marked 3)
-    (left_3 a.number a.n a.k2 c.if-k2-eq0.false c.if-line-eq7.false c.if-line.false ∙ simp other) refl
+    (left_3 a.number a.n a.k2 (search rules) (search rules) (search rules) ∙ simp other) refl
 
 pub returns-then-not-channel_carried : goal.returns-then-not-channel_carried
 returns-then-not-channel_carried c =
     let a = c.args in
     let fits = sym c.sections_fit-n_fits.ensures ∙ c.if-not-n_fits.false in
-    let code = sym c.listed_in-code_listed.ensures ∙ c.if-not-code_listed.false in
+    let code : listed_in a.number ≡ true = search rules in
     let other = sym c.usable_in-channel_carried.ensures ∙ c.if-not-channel_carried.true in
     by_finding a.number a.n a.k2 a.k1 fits (marked 4)
-    (left_4 a.number a.n a.k2 c.if-k2-eq0.false c.if-line-eq7.false c.if-line.false code ∙ simp other) refl
+    (left_4 a.number a.n a.k2 (search rules) (search rules) (search rules) code ∙ simp other) refl
 
 pub returns-then-bridged_above : goal.returns-then-bridged_above
 returns-then-bridged_above c =
     let a = c.args in
     let fits = sym c.sections_fit-n_fits.ensures ∙ c.if-not-n_fits.false in
-    let code = sym c.listed_in-code_listed.ensures ∙ c.if-not-code_listed.false in
-    let channel = sym c.usable_in-channel_carried.ensures ∙ c.if-not-channel_carried.false in
+    let code : listed_in a.number ≡ true = search rules in
+    let channel : usable_in a.number a.n ≡ true = search rules in
     by_finding a.number a.n a.k2 a.k1 fits (marked 5)
-    (left_5 a.number a.n a.k2 c.if-k2-eq0.false c.if-line-eq7.false c.if-line.false code channel ∙ search tests)
+    (left_5 a.number a.n a.k2 (search rules) (search rules) (search rules) code channel ∙ search tests)
     refl
 
 pub returns : goal.returns
 returns c =
     let a = c.args in
     let fits = sym c.sections_fit-n_fits.ensures ∙ c.if-not-n_fits.false in
-    let code = sym c.listed_in-code_listed.ensures ∙ c.if-not-code_listed.false in
-    let channel = sym c.usable_in-channel_carried.ensures ∙ c.if-not-channel_carried.false in
+    let code : listed_in a.number ≡ true = search rules in
+    let channel : usable_in a.number a.n ≡ true = search rules in
     by_finding a.number a.n a.k2 a.k1 fits nothing
-    (left_5 a.number a.n a.k2 c.if-k2-eq0.false c.if-line-eq7.false c.if-line.false code channel ∙ search tests)
+    (left_5 a.number a.n a.k2 (search rules) (search rules) (search rules) code channel ∙ search tests)
     refl
