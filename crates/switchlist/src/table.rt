@@ -56,6 +56,7 @@ fn put_captures(page: &mut [u8], book: &[u8], contents: Contents, table: &mut [u
 }
 
 // Answers where the text on the page ends that is not yet written.
+#[tactic(auto, using(book::proofs::Trips::read_few))]
 pub(crate) fn put_table(page: &mut [u8], book: &[u8], table: &mut [u16]) -> usize {
     let answer = read(book);
     if answer.refusal == 0 {

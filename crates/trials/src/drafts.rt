@@ -11,13 +11,11 @@ pub(crate) fn put_paper(book: &mut [u8]) {
     if book.len() < PAPER {
         return;
     }
-    bytes::copy(
+    book[..BODIES].copy_from_slice(
         b"\x01\x02\x02\x00\x00\x00\x00\x03\x00\x00\x00\x1A\x00\x03\x02\x00\x00\x00\x00\x03\x00\x00\x00\x26\x00\x02",
-        book,
     );
-    bytes::copy(
+    book[BODIES..PAPER].copy_from_slice(
         b"\x00\x08\xA2\x08\x22\x28\xA2\x28\x22\x28\x62\x28\x00\x08\xA2\x08\x22\x28\xA2\x08",
-        &mut book[BODIES..],
     );
 }
 

@@ -7,7 +7,7 @@ use text::{print, print_byte, print_labelled, print_list, print_number};
 const FAULTS: usize = 34;
 
 // What a fault sets: the byte at a place, or the length of the book.
-#[derive(Drop)]
+#[derive(Clone, Copy)]
 struct Change {
     pub at: usize,
     pub to: usize,

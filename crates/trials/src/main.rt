@@ -1,5 +1,7 @@
 // Reader and writer of capture books on drawn-up cases, their answers printed: round trips, each refusal alone and two at
 // once, every value of each byte of the contents, every length, settings, and the body of any entry.
+#![tactic(auto)]
+
 mod digest;
 mod drafts;
 mod faults;

@@ -84,7 +84,7 @@ fn join_one(book: &[u8], e: Entry, joined: &mut [u8], at: usize) -> usize {
     if joined.len() - at < part.len() {
         return 0;
     }
-    bytes::copy(part, &mut joined[at..]);
+    joined[at..at + part.len()].copy_from_slice(part);
     at + part.len()
 }
 

@@ -8,7 +8,7 @@ const FAULTS: usize = 23;
 
 // What the writer is handed: the count, n, spare byte, mask and steps of places 0 and 1, the bytes of the bodies, the room of
 // the output.
-#[derive(Drop)]
+#[derive(Clone, Copy)]
 struct Call {
     pub count: u8,
     pub n0: u8,
