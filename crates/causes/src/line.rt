@@ -5,7 +5,7 @@ use page::{put, put_field, put_hex, put_last, put_number};
 pub(crate) const LONGEST: usize = 41;
 
 // The four bytes of a step, the received pair first, and the words of its cause.
-#[derive(Drop)]
+#[derive(Clone, Copy)]
 pub(crate) struct Step {
     pub row: u32,
     pub conditions: u32,

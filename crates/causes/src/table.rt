@@ -108,6 +108,7 @@ fn put_captures(
 }
 
 // Answers where the text on the page ends that is not yet written.
+#[tactic(auto, using(book::proofs::Trips::read_few))]
 pub(crate) fn put_table(
     page: &mut [u8],
     book: &[u8],
