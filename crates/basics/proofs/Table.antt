@@ -33,5 +33,5 @@ pub entry_is : (f : ℕ → ℕ) (n k : ℕ) → k < n → get_or (values f n) k
 entry_is f n k h = value_from f n 0 k h ∙ ap f (zero-add k)
 
 -- two functions that compute to the same values have the same value at each place
-pub same-values : (f g : ℕ → ℕ) (n : ℕ) → values f n ≡ values g n → (k : ℕ) → k < n → f k ≡ g k
-same-values f g n e k h = sym (entry_is f n k h) ∙ ap (λ (list : List ℕ). get_or list k 0) e ∙ entry_is g n k h
+pub same_values : (f g : ℕ → ℕ) (n : ℕ) → values f n ≡ values g n → (k : ℕ) → k < n → f k ≡ g k
+same_values f g n e k h = sym (entry_is f n k h) ∙ ap (λ (list : List ℕ). get_or list k 0) e ∙ entry_is g n k h

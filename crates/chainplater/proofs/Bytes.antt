@@ -226,8 +226,8 @@ module _ (n code channel bridged : ℕ) where
 -- two answers of the judge that its promise allows, where what they hold makes them one
 module _ {Holds Holds2 : Judging → Type 0} {r r2 : ℕ} {out out2 : List ℕ} (p : Told Holds r out) (q : Told Holds2 r2 out2)
     (one : p.answer ≡ q.answer) where
-  pub same-refusal : r ≡ r2
-  same-refusal = p.number ∙ ap (λ (j : Judging). j.refusal) one ∙ sym q.number
+  pub same_refusal : r ≡ r2
+  same_refusal = p.number ∙ ap (λ (j : Judging). j.refusal) one ∙ sym q.number
 
   pub same_bytes : out ≡ out2
   same_bytes = p.bytes ∙ ap judging_bytes one ∙ sym q.bytes
@@ -291,8 +291,8 @@ module _ (n options mask w : ℕ) (capture old old2 new new2 after after2 : List
   pub causes_one : p.answer ≡ q.answer
   causes_one = decided.0
 
-  pub same-conditions : fixed_by out new ≡ fixed_by out2 after
-  same-conditions = fixed_by_lem p new ∙ decided.1 ∙ sym (fixed_by_lem q after)
+  pub same_conditions : fixed_by out new ≡ fixed_by out2 after
+  same_conditions = fixed_by_lem p new ∙ decided.1 ∙ sym (fixed_by_lem q after)
 
-  pub same-commands : fixed_by out new2 ≡ fixed_by out2 after2
-  same-commands = fixed_by_lem p new2 ∙ decided.2 ∙ sym (fixed_by_lem q after2)
+  pub same_commands : fixed_by out new2 ≡ fixed_by out2 after2
+  same_commands = fixed_by_lem p new2 ∙ decided.2 ∙ sym (fixed_by_lem q after2)

@@ -29,8 +29,8 @@ use Rattle.chainplater.specs.Switches.{looked_bytes}
 use Rattle.chainplater.specs.Verdict.{judging_bytes, RightFor, fixed_by}
 use Rattle.chainplater.proofs.Bytes.{record_size, outcome_size, record_back, record_again, refused_step_lem, fresh_for_lem}
 use Rattle.chainplater.proofs.Bytes.{above_refused, above_step}
-use Rattle.chainplater.proofs.Bytes.{refused_write, flag_taken, flag_refused, same-refusal, same_bytes, judged_one}
-use Rattle.chainplater.proofs.Bytes.{causes_one, same-conditions, same-commands}
+use Rattle.chainplater.proofs.Bytes.{refused_write, flag_taken, flag_refused, same_refusal, same_bytes, judged_one}
+use Rattle.chainplater.proofs.Bytes.{causes_one, same_conditions, same_commands}
 use Rattle.chainplater.proofs.Captures.{capture_fresh, capture_caused, capture_listed}
 use Rattle.chainplater.proofs.chainplater_fresh.Kinds as fresh-kinds
 use Rattle.chainplater.proofs.chainplater_fresh.Reads as fresh-fn
@@ -149,13 +149,13 @@ stepped_unique : OneContent 3 step-kinds.ps step-kinds.r step-fn.Post (λ κs ex
 stepped_unique κs args x y s t p q = one_value p.1 q.1
 
 judge_unique : OneAnswer 2 judge-kinds.ps judge-kinds.r judge-fn.Post
-judge_unique κs args x y s t p q = same-refusal p q (judged_one _ _ _ _ _ p q)
+judge_unique κs args x y s t p q = same_refusal p q (judged_one _ _ _ _ _ p q)
 
 judged_unique : OneContent 2 judge-kinds.ps judge-kinds.r judge-fn.Post (λ κs exit. exit.1.1.1.1.1.0.now)
 judged_unique κs args x y s t p q = same_bytes p q (judged_one _ _ _ _ _ p q)
 
 causes_unique : OneAnswer 4 causes-kinds.ps causes-kinds.r causes-fn.Post
-causes_unique κs args x y s t p q = same-refusal p q (causes_one _ _ _ _ _ _ _ _ _ _ _ p q)
+causes_unique κs args x y s t p q = same_refusal p q (causes_one _ _ _ _ _ _ _ _ _ _ _ p q)
 
 verdict_unique : OneContent 4 causes-kinds.ps causes-kinds.r causes-fn.Post (λ κs exit. exit.1.1.1.1.1.1.1.0.now)
 verdict_unique κs args x y s t p q = same_bytes p q (causes_one _ _ _ _ _ _ _ _ _ _ _ p q)
@@ -165,12 +165,12 @@ verdict_unique κs args x y s t p q = same_bytes p q (causes_one _ _ _ _ _ _ _ _
 conditions_unique :
     OneContent 4 causes-kinds.ps causes-kinds.r causes-fn.Post
     (λ κs exit. fixed_by exit.1.1.1.1.1.1.1.0.now exit.1.1.1.1.1.0.now)
-conditions_unique κs args x y s t p q = same-conditions _ _ _ _ _ _ _ _ _ _ _ p q
+conditions_unique κs args x y s t p q = same_conditions _ _ _ _ _ _ _ _ _ _ _ p q
 
 commands_unique :
     OneContent 4 causes-kinds.ps causes-kinds.r causes-fn.Post
     (λ κs exit. fixed_by exit.1.1.1.1.1.1.1.0.now exit.1.1.1.1.1.1.0.now)
-commands_unique κs args x y s t p q = same-commands _ _ _ _ _ _ _ _ _ _ _ p q
+commands_unique κs args x y s t p q = same_commands _ _ _ _ _ _ _ _ _ _ _ p q
 
 switches_unique : OneAnswer 3 switches-kinds.ps switches-kinds.r switches-fn.Post
 switches_unique κs args x y s t p q = one_value p.0 q.0

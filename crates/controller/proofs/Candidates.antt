@@ -12,7 +12,7 @@ use Rattle.pair.proofs.Ranks.{rank_own}
 use Rattle.request.specs.Order.{by_turn, OneOf, Orders}
 use Rattle.request.specs.declared.Request.{Request}
 use Rattle.request.proofs.Order.{one_split, one_joined, best_one, best_above, best_beats, best_only, best_single, best_top}
-use Rattle.request.proofs.Order.{tie-lost, lower_first}
+use Rattle.request.proofs.Order.{tie_lost, lower_first}
 use Rattle.request.proofs.FirstCome.{turn_orders}
 use Rattle.controller.specs.Rules.{reverse, no_request, rank_of_request, conditions_from, candidates, local_request, decided}
 use Rattle.controller.proofs.Apart.{none_rank}
@@ -42,7 +42,7 @@ ends_lower far near some same lower =
 pub ends_ours : (far near : Request) → rank_of_request far ≡ rank_of_request near → near.channel ≤ far.channel
     → decided far near ≡ near
 ends_ours far near same above =
-    rw (tie-lost (rank_of_request far) far.channel (rank_of_request near) near.channel same above)
+    rw (tie_lost (rank_of_request far) far.channel (rank_of_request near) near.channel same above)
 
 module _ (mask protection : ℕ) (working : List ℕ) (command wait : Request) where
   abbrev all : List Request

@@ -137,8 +137,8 @@ module _ {hold : Bool} {bytes : List ℕ} {steps : ℕ} {begin possible : Record
   long : length rows ≡ steps
   long = rows_in_long bytes steps k.inside
 
-  pub loop-fit : Fit possible
-  loop-fit =
+  pub loop_fit : Fit possible
+  loop_fit =
       let same = k.same in
       record { sections = rw same k.fit.sections; sent = rw same k.fit.sent; accepted = rw same k.fit.accepted }
 

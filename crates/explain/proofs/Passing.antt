@@ -13,7 +13,7 @@ use Rattle.request.specs.declared.Request.{Request}
 use Rattle.controller.specs.Rules.{asked, is_wait}
 use Rattle.controller.specs.Step.{wait_of}
 use Rattle.repeats.specs.Repeats.{same_row, run_of}
-use Rattle.repeats.proofs.Runs.{same-is}
+use Rattle.repeats.proofs.Runs.{same_is}
 use Rattle.explain.specs.Scan.{scan_from}
 use Rattle.explain.specs.Trace.{live, next, takes_wait, passes, with_left, passed}
 use Rattle.explain.specs.declared.Records.{Records}
@@ -74,7 +74,7 @@ scan_past (suc k) (q ∷ rows) r e i behind few lasts = go (same_row r q) refl (
     go true same later =
         let few2 : suc k ≤ suc (run_of r rows) = rw same at few in
         let one = behind_next r e behind (λ wait. let so = lasts wait in omega arith) in
-        let two = ap (next e) (sym (same-is r q same)) ∙ one in
+        let two = ap (next e) (sym (same_is r q same)) ∙ one in
         let alive : live (next e q) ≡ true = ap live two ∙ behind.alive in
         let here : suc i + k ≡ i + suc k = omega arith in
         let on : 1 + k ≡ suc k = omega arith in

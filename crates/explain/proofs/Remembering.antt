@@ -113,8 +113,8 @@ module _ (s : Controller) (cause : Cause) (r : Row) (able : Able s) (sends : Sen
       go false e carried = rw e refl
 
   -- both machines have the same command held
-  same-held : held_by true (k1_of (held last)) last ≡ held_by s.hold s.held last
-  same-held = held_back s.sent ∙ ap (λ (b : Bool). held_by b s.held last) (sym able.off)
+  same_held : held_by true (k1_of (held last)) last ≡ held_by s.hold s.held last
+  same_held = held_back s.sent ∙ ap (λ (b : Bool). held_by b s.held last) (sym able.off)
 
   read_off : held_by s.hold s.held last ≡ held last
   read_off = ap (λ (b : Bool). held_by b s.held last) able.off
@@ -153,7 +153,7 @@ module _ (s : Controller) (cause : Cause) (r : Row) (able : Able s) (sends : Sen
     pub held_sends : Sends (stepped t cause r) r
     held_sends =
         recast_sends s true (k1_of (held last)) cause r cause.command cause.channel sends accepts well.command_fits
-        well.channel_fits (ap sent_as same-held) refl
+        well.channel_fits (ap sent_as same_held) refl
 
     pub held_left : (stepped t cause r).controller ≡ remembering (stepped s cause r).controller
     held_left =
@@ -163,7 +163,7 @@ module _ (s : Controller) (cause : Cause) (r : Row) (able : Able s) (sends : Sen
         ∙ ap k1_of keeps
         ∙ ap (λ (k : ℕ). k1_of (held (asked k))) (sym (sent_left s cause r sends)) in
         recast_left s true (k1_of (held last)) cause r cause.command cause.channel sends accepts well.command_fits
-        well.channel_fits (ap sent_as same-held) refl
+        well.channel_fits (ap sent_as same_held) refl
         ∙ ap (λ (k : ℕ). recast true k u) stands
 
 -- with hold a clear is shown wherever a command was held and none is sent

@@ -15,7 +15,7 @@ use Rattle.pair.proofs.Rows.{held_in, carried_within}
 use Rattle.request.specs.Order.{same}
 use Rattle.request.specs.declared.Request.{Request}
 use Rattle.request.proofs.Order.{or_true}
-use Rattle.request.proofs.FirstCome.{same-one}
+use Rattle.request.proofs.FirstCome.{same_one}
 use Rattle.controller.specs.Settings.{high}
 use Rattle.controller.specs.Rules.{no_request, rank_of_request, fail_code, degrade_code}
 use Rattle.controller.specs.Rules.{is_command, held, replaces_held, condition}
@@ -179,7 +179,7 @@ module _ (mask w left : ℕ) (last : Request) where
 
       go : (u : Bool) → same x last ≡ u → Gives n (command_for last x t) (channel_for last x) x
       go true e =
-          let it : x ≡ last = same-one x last e in
+          let it : x ≡ last = same_one x last e in
           let hold : x ≡ held last = subst (λ (y : Request). x ≡ held y) it (rw by.0) in
           let sent = k.high in
           rw by.0 (rw (some, e) (goes_on n x hold (omega arith)))

@@ -5,7 +5,7 @@ use Prim.Native.Nat.{ℕ, ◌<◌, ◌/◌, ◌%◌, ◌^◌}
 use lib.Dec.{eqb}
 use Rattle.std.specs.Prelude.{if◌then◌else◌}
 use Rattle.basics.specs.Table.{values}
-use Rattle.basics.proofs.Table.{same-values}
+use Rattle.basics.proofs.Table.{same_values}
 
 -- the bit at a place of a word
 abbrev pub bit_in : ℕ → ℕ → ℕ
@@ -22,5 +22,5 @@ bit_back false = refl
 pub bit_in_lem : (test : ℕ → Bool) (word : ℕ) → values (bit_in word) 16 ≡ values (λ (k : ℕ). bit (test k)) 16
     → (place : ℕ) → place < 16 → eqb (bit_in word place) 1 ≡ test place
 bit_in_lem test word rule place below =
-    ap (λ (b : ℕ). eqb b 1) (same-values (bit_in word) (λ (k : ℕ). bit (test k)) 16 rule place below)
+    ap (λ (b : ℕ). eqb b 1) (same_values (bit_in word) (λ (k : ℕ). bit (test k)) 16 rule place below)
     ∙ bit_back (test place)

@@ -14,8 +14,8 @@ use Rattle.repeats.specs.Repeats.{back, same_row, run_of, repeated, alike, Run}
 use Rattle.repeats.proofs.Pieces.{alike_all}
 
 -- rows are the same exactly if they are equal
-pub same-is : (p q : Row) → same_row p q ≡ true → p ≡ q
-same-is p q h =
+pub same_is : (p q : Row) → same_row p q ≡ true → p ≡ q
+same_is p q h =
     let three =
     (and-eq-true_iff (eqb p.k1 q.k1 && eqb p.k2 q.k2 && eqb p.sent_k1 q.sent_k1) (eqb p.sent_k2 q.sent_k2)).0 h in
     let two = (and-eq-true_iff (eqb p.k1 q.k1 && eqb p.k2 q.k2) (eqb p.sent_k1 q.sent_k1)).0 three.0 in
@@ -46,7 +46,7 @@ module _ (r : Row) where
     where
       go : (t : Bool) → same_row r q ≡ t → (j : ℕ) → j < run_of r (q ∷ rows)
           → ((j : ℕ) (other : Row) → j < run_of r rows → get_or rows j other ≡ r) → get_or (q ∷ rows) j other ≡ r
-      go true e zero few later = sym (same-is r q e)
+      go true e zero few later = sym (same_is r q e)
       go true e (suc j) few later = let less : suc j < suc (run_of r rows) = rw e at few in later j other (omega arith)
       go false e j few later = let none : j < 0 = rw e at few in absurd (omega arith)
 

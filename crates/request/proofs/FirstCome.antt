@@ -11,8 +11,8 @@ use Rattle.request.specs.declared.Request.{Request}
 use Rattle.request.proofs.Order.{by_number}
 
 -- requests of the same code and channel are one
-pub same-one : (a b : Request) → same a b ≡ true → a ≡ b
-same-one a b h =
+pub same_one : (a b : Request) → same a b ≡ true → a ≡ b
+same_one a b h =
     let both = (and-eq-true_iff (eqb a.code b.code) (eqb a.channel b.channel)).0 h in
     let code : a.code ≡ b.code = eqb-true a.code b.code both.0 in
     let channel : a.channel ≡ b.channel = eqb-true a.channel b.channel both.1 in
@@ -42,7 +42,7 @@ module _ (last : Request) where
       go true stays e f = inl (turn_zero x e, eqb-true x.channel 0 e)
       go false true e f =
           let some = eqb-false x.channel 0 e in
-          inr (inl (turn_stays x e f, same-one x last f, omega arith))
+          inr (inl (turn_stays x e f, same_one x last f, omega arith))
       go false false e f = let some = eqb-false x.channel 0 e in inr (inr (turn_other x e f, omega arith))
 
   -- no two channels share a turn

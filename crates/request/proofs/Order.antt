@@ -42,15 +42,15 @@ beaten r c s d (wins, inr (e, h)) =
     rw (lt-ltb 0 r wins, eq-eqb r s e, lt-ltb c d h) (or_right (ltb s r) true refl)
 
 -- within a rank the higher number does not win
-pub tie-lost : (r c s d : ℕ) → r ≡ s → d ≤ c → better r c s d ≡ false
-tie-lost r c s d same above = eq-false_of_not-eq-true (λ h. no (beats r c s d h))
+pub tie_lost : (r c s d : ℕ) → r ≡ s → d ≤ c → better r c s d ≡ false
+tie_lost r c s d same above = eq-false_of_not-eq-true (λ h. no (beats r c s d h))
   where
     no : Beats r c s d → ⊥
     no (wins, inl h) = omega arith
     no (wins, inr (e, h)) = omega arith
 
 pub better_irreflexive : (r c : ℕ) → better r c r c ≡ false
-better_irreflexive r c = tie-lost r c r c refl (omega arith)
+better_irreflexive r c = tie_lost r c r c refl (omega arith)
 
 pub better_transitive : (r c s d t e : ℕ) → better r c s d ≡ true → better s d t e ≡ true → better r c t e ≡ true
 better_transitive r c s d t e h k = beaten r c t e (join (beats r c s d h) (beats s d t e k))

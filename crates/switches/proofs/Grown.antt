@@ -235,13 +235,13 @@ module _ (old more : List ℕ) (listed count : ℕ) (table : List ℕ)
       (ap (take listed) appended ∙ take-append-le listed before (sent_in more) first.walks.inside)
       ∙ first.ours
 
-  same-refusal : extend_refusal (old ++ more) steps number between ≡ extend_refusal (old ++ more) listed count table
+  same_refusal : extend_refusal (old ++ more) steps number between ≡ extend_refusal (old ++ more) listed count table
   unfolding extend_refusal
-  same-refusal = rw (inside, inside_first, ours, ours_first, as_long old listed count table first)
+  same_refusal = rw (inside, inside_first, ours, ours_first, as_long old listed count table first)
 
   pub same_answer : extending (old ++ more) steps number between ≡ extending (old ++ more) listed count table
   unfolding extending
-  same_answer = rw same-refusal
+  same_answer = rw same_refusal
 
   later : Behind (changed after) steps (length after)
   later = below_behind (changed after) steps (length after) longer
@@ -253,9 +253,9 @@ module _ (old more : List ℕ) (listed count : ℕ) (table : List ℕ)
       ∙ ap (λ (l : List ℕ). l ++ later.rest)
       (sym (changes_front after steps longer) ∙ ap changes front_again)
 
-  pub same-table : (extending (old ++ more) listed count table).refusal ≡ 0
+  pub same_table : (extending (old ++ more) listed count table).refusal ≡ 0
       → extended (old ++ more) steps number between ≡ extended (old ++ more) listed count table
-  same-table unrefused =
+  same_table unrefused =
       let whole = taken (old ++ more) listed count table unrefused in
       let again =
       taken (old ++ more) steps number between (ap (λ (g : Grown). g.refusal) same_answer ∙ unrefused) in

@@ -10,7 +10,7 @@ use Rattle.switches.specs.Changes.{below◌such_that◌, sent_in, changed, chang
 use Rattle.switches.specs.Extend.{extending, extended}
 use Rattle.switches.specs.LastChange.{looking}
 use Rattle.switches.proofs.Sent.{change_listed, listed_change, changes_rise}
-use Rattle.switches.proofs.Grown.{whole_list, stays_elsewhere, untouched, afresh, afresh_all, same_answer, same-table}
+use Rattle.switches.proofs.Grown.{whole_list, stays_elsewhere, untouched, afresh, afresh_all, same_answer, same_table}
 use Rattle.switches.proofs.Greatest.{greatest, none_exactly}
 use Rattle.switches.proofs.extend.Kinds as extend-kinds
 use Rattle.switches.proofs.extend.Reads as extend-fn
@@ -100,7 +100,7 @@ grown_table : (old more : List ℕ) (listed count : ℕ) (table : List ℕ) → 
     let number = (extending old listed count table).number in
     let between = extended old listed count table in
     extended (old ++ more) (length (sent_in old)) number between ≡ extended (old ++ more) listed count table
-grown_table = same-table
+grown_table = same_table
 
 -- The last change is the greatest listed step that is not above the given one; and there is none exactly if no listed step is
 -- not above it.

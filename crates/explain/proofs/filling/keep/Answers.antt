@@ -1,10 +1,10 @@
-use Rattle.explain.proofs.Keeping.{loop-fit, sent_within, accepted_within, keeping_next}
+use Rattle.explain.proofs.Keeping.{loop_fit, sent_within, accepted_within, keeping_next}
 use Rattle.explain.proofs.filling.keep.Goals as goal
 
 pub follow-after-requires : goal.follow-after-requires
 follow-after-requires c =
     let held = c.loop-step.invariant in
-    (c.numbers-table.ensures, loop-fit held, sent_within held c.loop-step-test.true)
+    (c.numbers-table.ensures, loop_fit held, sent_within held c.loop-step-test.true)
 
 pub conditions_kept-requires : goal.conditions_kept-requires
 conditions_kept-requires c = sent_within c.loop-step.invariant c.loop-step-test.true
@@ -14,7 +14,7 @@ command_kept-requires c =
     let held = c.loop-step.invariant in
     let more = c.loop-step-test.true in (
       c.numbers-table.ensures,
-      (loop-fit held).sent,
+      (loop_fit held).sent,
       accepted_within held more c.follow-after.ensures,
       sent_within held more,
     )
