@@ -33,7 +33,7 @@ module _ (s : Controller) (r : Row) (loud : alarm s.n r.k1 r.k2 ≡ true) where
       well : WellFormed s cause.conditions cause.command cause.channel
       well =
           well_formed s cause.conditions cause.command cause.channel
-          (unrefused s r.k1 r.k2 cause.conditions cause.command cause.channel sends.not_refused_lem)
+          (unrefused s r.k1 r.k2 cause.conditions cause.command cause.channel sends.not_refused)
 
       go : (xs : List ℕ) → cause.conditions ≡ xs
           → (c : Cause) × (eqb (protection c.conditions) 2 ≡ true) × (stepped s cause r ≡ stepped s c (quieted r))
@@ -68,7 +68,7 @@ module _ (s : Controller) (r : Row) (loud : alarm s.n r.k1 r.k2 ≡ true) where
   failed_leads cause failed u (sends, is) =
       let same = failed_alarm cause failed in (
         record {
-          not_refused_lem = rw same sends.not_refused_lem;
+          not_refused = rw same sends.not_refused;
           first = rw same sends.first;
           second = rw same sends.second;
         },
@@ -95,7 +95,7 @@ module _ (s : Controller) (r : Row) (loud : alarm s.n r.k1 r.k2 ≡ true) where
             c,
             failed,
             record {
-              not_refused_lem = rw same at sends.not_refused_lem;
+              not_refused = rw same at sends.not_refused;
               first = rw same at sends.first;
               second = rw same at sends.second;
             },

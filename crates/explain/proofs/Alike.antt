@@ -64,7 +64,7 @@ settings_fit_lem : (n : ℕ) (hold : Bool) (mask w : ℕ) (r : Row) (rows : List
     → (sections_fit n ≡ true) × (mask_fits n mask ≡ true)
 settings_fit_lem n hold mask w r rows ([], h) = absurd h
 settings_fit_lem n hold mask w r rows (c ∷ causes, h) =
-    let well = step_well (fresh n hold mask w) c r h.0.not_refused_lem in (well.fits, well.mask_fits)
+    let well = step_well (fresh n hold mask w) c r h.0.not_refused in (well.fits, well.mask_fits)
 
 -- so the settings need not be asked for
 pub hold_alike : (n mask w : ℕ) (rows : List Row) → Explained n true mask w rows ↔ Explained n false mask w rows

@@ -107,7 +107,7 @@ module _ (t : Controller) (cause : Cause) (r : Row) (recalls : Recalls t) (sends
   stands = stands_in t r.k1 r.k2 acts cause.command cause.channel
 
   goes : (stepped t cause r).refusal ≡ 0
-  goes = sends.not_refused_lem
+  goes = sends.not_refused
 
   well : WellFormed t acts cause.command cause.channel
   well = acts_well t cause r goes

@@ -121,14 +121,14 @@ module _ (s : Controller) (cause : Cause) (r : Row) (goes : (stepped s cause r).
       λ i. record { code = back.0 i; channel = back.1 i }
 
 module _ (s : Controller) (cause : Cause) (r : Row) (sends : Sends (stepped s cause r) r) where
-  first_sent : k1_of (sent_by s cause r sends.not_refused_lem) ≡ r.sent_k1
-  first_sent = sym (step_moves s cause r sends.not_refused_lem).first ∙ sends.first
+  first_sent : k1_of (sent_by s cause r sends.not_refused) ≡ r.sent_k1
+  first_sent = sym (step_moves s cause r sends.not_refused).first ∙ sends.first
 
-  pub sent_asked : sent_by s cause r sends.not_refused_lem ≡ asked r.sent_k1
-  sent_asked = sym (sent_back s cause r sends.not_refused_lem) ∙ ap asked first_sent
+  pub sent_asked : sent_by s cause r sends.not_refused ≡ asked r.sent_k1
+  sent_asked = sym (sent_back s cause r sends.not_refused) ∙ ap asked first_sent
 
   pub sent_left : (stepped s cause r).controller.sent ≡ r.sent_k1
-  sent_left = ap (λ (u : Controller). u.sent) (step_moves s cause r sends.not_refused_lem).after ∙ first_sent
+  sent_left = ap (λ (u : Controller). u.sent) (step_moves s cause r sends.not_refused).after ∙ first_sent
 
 module _ (s : Controller) (hold : Bool) (held : ℕ) (cause : Cause) (r : Row) (command c : ℕ) where
   abbrev other : Controller
@@ -166,7 +166,7 @@ module _ (s : Controller) (hold : Bool) (held : ℕ) (cause : Cause) (r : Row) (
       (waits : left_after sent (wait_of s (asked s.sent) command)
       ≡ left_after sent (wait_of s (asked s.sent) cause.command)) where
     well : WellFormed s cause.conditions cause.command cause.channel
-    well = step_well s cause r sends.not_refused_lem
+    well = step_well s cause r sends.not_refused
 
     goes : (stepped other given_instead r).refusal ≡ 0
     goes =
@@ -178,7 +178,7 @@ module _ (s : Controller) (hold : Bool) (held : ℕ) (cause : Cause) (r : Row) (
     moves = step_moves other given_instead r goes
 
     moves_same : Moves s r.k1 r.k2 acts cause.command cause.channel (stepped s cause r)
-    moves_same = step_moves s cause r sends.not_refused_lem
+    moves_same = step_moves s cause r sends.not_refused
 
     sent_same : sent_in other r.k1 r.k2 acts command c ≡ sent
     sent_same =
@@ -192,7 +192,7 @@ module _ (s : Controller) (hold : Bool) (held : ℕ) (cause : Cause) (r : Row) (
     pub recast_sends : Sends (stepped other given_instead r) r
     recast_sends =
         record {
-          not_refused_lem = goes;
+          not_refused = goes;
           first = moves.first ∙ ap k1_of sent_same ∙ sym moves_same.first ∙ sends.first;
           second =
               moves.second

@@ -45,7 +45,7 @@ pub record Able (s : Controller) : Type 0 where
 pub able_next : (s : Controller) (cause : Cause) (r : Row) → Able s → Sends (stepped s cause r) r
     → Able (stepped s cause r).controller
 able_next s cause r a sends =
-    let k = (step_keeps s r.k1 r.k2 cause.conditions cause.command cause.channel sends.not_refused_lem).0 in
+    let k = (step_keeps s r.k1 r.k2 cause.conditions cause.command cause.channel sends.not_refused).0 in
     record {
       fits = rw k.sections a.fits;
       mask_fits = rw (k.sections, k.priorities) a.mask_fits;
@@ -184,10 +184,10 @@ module _ (s : Controller) (r : Row) (able : Able s) (quiet : alarm s.n r.k1 r.k2
     well =
         well_formed s cause.conditions cause.command cause.channel
         (rw quiet at
-        (not_refused_lem s r.k1 r.k2 cause.conditions cause.command cause.channel sends.not_refused_lem).0)
+        (not_refused_lem s r.k1 r.k2 cause.conditions cause.command cause.channel sends.not_refused).0)
 
     answered : Answered cause failed (stepped s cause r)
-    answered = step_is cause failed refl sends.not_refused_lem
+    answered = step_is cause failed refl sends.not_refused
 
     sendable : Sendable s.n s.mask (now cause) sent
     sendable =
@@ -217,7 +217,7 @@ module _ (s : Controller) (r : Row) (able : Able s) (quiet : alarm s.n r.k1 r.k2
     sent_usable : usable s.n r.sent_k1 r.sent_k2 ≡ true
     sent_usable =
         let k =
-        (step_keeps s r.k1 r.k2 cause.conditions cause.command cause.channel sends.not_refused_lem).1.pair_usable in
+        (step_keeps s r.k1 r.k2 cause.conditions cause.command cause.channel sends.not_refused).1.pair_usable in
         rw (sends.first, sends.second) at k
 
     carried : carries requests s.n x.code x.channel ≡ true
@@ -331,7 +331,7 @@ module _ (s : Controller) (r : Row) (able : Able s) (quiet : alarm s.n r.k1 r.k2
       sends =
           let answered = step_is cause t by.protects goes in
           record {
-            not_refused_lem = goes;
+            not_refused = goes;
             first = answered.first ∙ ap k1_of by.sends ∙ k1_whole r.sent_k1;
             second =
                 answered.second

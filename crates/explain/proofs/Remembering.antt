@@ -91,7 +91,7 @@ module _ (s : Controller) (cause : Cause) (r : Row) (able : Able s) (sends : Sen
   t = remembering s
 
   goes : (stepped s cause r).refusal ≡ 0
-  goes = sends.not_refused_lem
+  goes = sends.not_refused
 
   accepts : acceptable t ≡ true
   accepts =

@@ -18,7 +18,7 @@ stepped s cause r = step s r.k1 r.k2 cause.conditions cause.command cause.channe
 
 -- the step is not refused, and sends precisely the bytes of the row
 pub record Sends (o : Outcome) (r : Row) : Type 0 where
-  pub not_refused_lem : o.refusal ≡ 0
+  pub not_refused : o.refusal ≡ 0
   pub first : o.k1 ≡ r.sent_k1
   pub second : o.k2 ≡ r.sent_k2
 
