@@ -1,5 +1,5 @@
--- What the crates above share: choice on a test, the first answer that applies, what an answer promises, the values of a
--- function as a table, big-endian numbers, and fields of them one behind the other; which settings fit; and what a capture is.
+-- What the crates above share: the first answer that applies, what an answer promises, the values of a function as a table,
+-- big-endian numbers, and fields of them one behind the other; which settings fit; and what a capture is.
 pub mod First
 pub mod Answer
 pub mod Table
