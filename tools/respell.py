@@ -1,7 +1,7 @@
 #!/usr/bin/env python3
 """Brings this repository's own definitions and lemmas to the spelling of today's Rattle.
 
-Run once, at the top of the repository, after /opt/rattle/port/port.py. Words are in snake case: `rankOf` becomes
+Run once, at the top of the repository, after the port.py of the kit. Words are in snake case: `rankOf` becomes
 `rank_of` and `rank-of` becomes `rank_of`. A lemma that would have its function's name ends in `_lem`. Types, modules,
 functions of src/ and exported names keep theirs, and so does what the library or the checker names.
 """
