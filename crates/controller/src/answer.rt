@@ -103,6 +103,6 @@ pub(crate) fn moved(
     let near = local_request(s.mask, last, protect, conditions, stands, wait, rank);
     let heard = far.request;
     let sent = decided(heard, near);
-    let fate = fate(command, replaced, counts(s.hold, sent, new));
+    let fate = fate(command, replaced, counts(s.hold, sent, new)).number();
     answering(s, far, sent, now, held, fate)
 }

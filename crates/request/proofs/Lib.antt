@@ -2,4 +2,5 @@
 pub mod Order
 pub mod FirstCome
 pub mod Channels
+pub mod Fates
 mod Theorems

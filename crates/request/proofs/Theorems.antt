@@ -11,6 +11,7 @@ use Rattle.request.specs.declared.Request.{Request}
 use Rattle.request.proofs.Order.{better_irreflexive, better_transitive, better_total, never_wins}
 use Rattle.request.proofs.Order.{best_one, best_above, best_only, best_single, best_asked, rank_orders}
 use Rattle.request.proofs.FirstCome.{turn_orders}
+use Rattle.request.proofs.Fates.{one_fate}
 use Rattle.request.proofs.better.Kinds as better-kinds
 use Rattle.request.proofs.better.Reads as better-fn
 use Rattle.request.proofs.better.Statement as better-statement
@@ -133,7 +134,7 @@ replaces_unique : OneAnswer 0 replaces-kinds.ps replaces-kinds.r replaces.Post
 replaces_unique κs args x y s t p q = one_value p q
 
 fate_unique : OneAnswer 0 fate-kinds.ps fate-kinds.r fate.Post
-fate_unique κs args x y s t p q = one_value p q
+fate_unique κs args x y s t p q = one_fate p q
 
 wait_now_unique : OneAnswer 0 wait-now-kinds.ps wait-now-kinds.r wait-now.Post
 wait_now_unique κs args x y s t p q = one_value p q

@@ -1,14 +1,18 @@
 // The decision of one step, on ranks and channels alone (01, 'One step', rules 2 to 7).
 #![tactic(auto)]
 
+pub mod command;
+
 ghost use Rattle.request.specs.Bridge.{bridge, selector};
-ghost use Rattle.request.specs.Command.{replaces, fate};
+ghost use Rattle.request.specs.Command.{replaces, fate, fate_number};
 ghost use Rattle.request.specs.Order.{better, turn};
 ghost use Rattle.request.specs.Wait.{wait_now};
-ghost use Rattle.std.specs.Prelude.{◌-◌, ◌≡◌};
+ghost use Rattle.std.specs.Prelude.{◌≡◌};
+
+use crate::command::Fate;
 
 // What is asked for, by its code in a table of requests, and for which channel.
-#[derive(Clone, Copy)]
+#[derive(Clone, Copy, Debug, PartialEq, Eq)]
 pub struct Request {
     pub code: u8,
     pub channel: u8,
@@ -24,16 +28,14 @@ pub fn better(rank: u8, channel: u8, rank2: u8, channel2: u8) -> bool
 pub fn turn(last: Request, x: Request) -> usize
     ensures { result ≡ turn last x }
 {
-    let code = x.code;
-    let channel = x.channel;
-    let code_sent = last.code;
-    let channel_sent = last.channel;
-    let on_protection = channel == 0;
-    let last_sent = (code == code_sent) & (channel == channel_sent);
-    if on_protection {
+    if x.channel == 0 {
         return 0;
     }
-    if last_sent { 1 } else { channel as usize + 1 }
+    if x == last {
+        1
+    } else {
+        usize::from(x.channel) + 1
+    }
 }
 
 pub fn replaces(held: u8, given: u8) -> bool
@@ -42,22 +44,15 @@ pub fn replaces(held: u8, given: u8) -> bool
     (held == 0) | (held < given)
 }
 
-pub fn fate(command: u8, replaced: bool, sent: bool) -> u8
-    ensures { result ≡ fate command replaced sent }
+pub fn fate(command: u8, replaced: bool, sent: bool) -> Fate
+    ensures { fate_number result ≡ fate command replaced sent }
 {
-    if command == 0 {
-        return 0;
+    match command {
+        0 => Fate::NoCommand,
+        1 => Fate::Taken,
+        _ if replaced & sent => Fate::Taken,
+        _ => Fate::Denied,
     }
-    if command == 1 {
-        return 1;
-    }
-    if replaced & sent { 1 } else { 2 }
-}
-
-fn one_less(x: u16) -> u16
-    ensures { result ≡ x - 1 }
-{
-    if 0 < x { x - 1 } else { 0 }
 }
 
 pub fn wait_now(clear: bool, entering: bool, waiting: bool, w: u16, left: u16) -> u16
@@ -69,7 +64,7 @@ pub fn wait_now(clear: bool, entering: bool, waiting: bool, w: u16, left: u16) -
     if entering {
         return w;
     }
-    if waiting { one_less(left) } else { 0 }
+    if waiting { left.saturating_sub(1) } else { 0 }
 }
 
 pub fn bridge(accepted: u8, sent: u8, kept: bool) -> u8

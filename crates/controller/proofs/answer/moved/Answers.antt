@@ -180,7 +180,7 @@ answering-requires c =
     c.protection-protect.ensures c.asked-last.ensures c.accepting-far.ensures c.held_by.ensures c.kept-prior.ensures
     c.given-new.ensures c.rank_of-prior_rank.ensures c.rank_of-new_rank.ensures c.replaces-replaced.ensures
     c.in_force-stands.ensures c.rank_in_force-rank.ensures c.held_after-held.ensures c.wait_of-now.ensures
-    c.waiting-wait.ensures c.local_request-near.ensures c.decided-sent.ensures c.counts.ensures c.fate-fate.ensures in
+    c.waiting-wait.ensures c.local_request-near.ensures c.decided-sent.ensures c.counts.ensures (c.number-fate.ensures ∙ c.fate.ensures) in
     rw (is, far) (sent_room a.s a.k1 a.k2 a.conditions.now a.command a.c c.requires.0)
 
 pub returns : goal.returns
@@ -191,4 +191,4 @@ returns c =
     c.protection-protect.ensures c.asked-last.ensures c.accepting-far.ensures c.held_by.ensures c.kept-prior.ensures
     c.given-new.ensures c.rank_of-prior_rank.ensures c.rank_of-new_rank.ensures c.replaces-replaced.ensures
     c.in_force-stands.ensures c.rank_in_force-rank.ensures c.held_after-held.ensures c.wait_of-now.ensures
-    c.waiting-wait.ensures c.local_request-near.ensures c.decided-sent.ensures c.counts.ensures c.fate-fate.ensures
+    c.waiting-wait.ensures c.local_request-near.ensures c.decided-sent.ensures c.counts.ensures (c.number-fate.ensures ∙ c.fate.ensures)
