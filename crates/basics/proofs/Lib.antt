@@ -4,6 +4,7 @@ pub mod Table
 pub mod First
 pub mod Bytes
 pub mod Fields
+pub mod Refusals
 pub mod Fitting
 pub mod Rows
 pub mod One

@@ -18,6 +18,11 @@ use Rattle.basics.proofs.Table.{at_entry, entry_is}
 use Rattle.basics.proofs.First.{first_given, first_shown, others, none_of, CountedFrom, first_exact, numbered, none_exact}
 use Rattle.basics.proofs.Bytes.{two_back, four_back}
 use Rattle.basics.proofs.Fields.{fields_back, fields_again}
+use denote.RattleType.{RattleType}
+use denote.Param.Laws.{Laws, IsCopy}
+use mir.Syntax.{Dict}
+use Rattle.std.specs.declared.clone.Clone.{Ghosts}
+use Rattle.basics.proofs.Refusals.{told_one}
 use Rattle.basics.proofs.One.{OneAnswer, OneContent, one_value, one_case}
 use Rattle.basics.proofs.two_at.Kinds as two-at-kinds
 use Rattle.basics.proofs.two_at.Reads as two-at
@@ -162,8 +167,10 @@ put_four_unique κs args x y s t p q = one_value p q
 sections_fit_unique : OneAnswer 0 sections-fit-kinds.ps sections-fit-kinds.r sections-fit.Post
 sections_fit_unique κs args x y s t p q = one_value p q
 
-settings_refusal_unique : OneAnswer 0 settings-refusal-kinds.ps settings-refusal-kinds.r settings-refusal.Post
-settings_refusal_unique κs args x y s t p q = one_value p q
+settings_refusal_unique : (E : RattleType) (laws : Laws E) (copied : IsCopy E) (clone : Ghosts E.Denot) (dict : Dict)
+    → OneAnswer 1 (settings-refusal-kinds.ps E laws copied) (settings-refusal-kinds.r E laws copied)
+    (settings-refusal.Post E laws copied clone dict)
+settings_refusal_unique E laws copied clone dict κs args x y s t p q = one_value p q
 
 size_refusal_unique : OneAnswer 0 size-refusal-kinds.ps size-refusal-kinds.r size-refusal.Post
-size_refusal_unique κs args x y s t p q = one_value p q
+size_refusal_unique κs args x y s t p q = told_one x y (one_value p q)

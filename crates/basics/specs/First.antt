@@ -1,6 +1,6 @@
 -- Answers that are asked for in an order, as the paper's marks and refusals are: the first that applies is given, and
 -- where none does another; for numbers that is 0.
-use Rattle.std.specs.Prelude.{if◌then◌else◌, ◌≡◌, Bool, true, false, List, [], ◌∷◌, ℕ, zero, suc, ◌<◌}
+use Rattle.std.specs.Prelude.{if◌then◌else◌, ◌≡◌, Bool, true, false, Result, Ok, Err, List, [], ◌∷◌, ℕ, zero, suc, ◌<◌}
 
 infix 15 ◌when◌
 -- an answer, and the test by which it applies
@@ -14,6 +14,11 @@ module _ {A : Type 0} where
   abbrev pub first_or : A → List (CheckFor A) → A
   first_or none [] = none
   first_or none ((a when t) ∷ rest) = if t then a else first_or none rest
+
+  -- the first that applies as an error
+  abbrev pub first_error : List (CheckFor A) → Result (Unit {0}) A
+  first_error [] = Ok tt
+  first_error ((a when t) ∷ rest) = if t then Err a else first_error rest
 
   -- the outcome of the test at place i of the order; past its end a test that fails
   abbrev pub applies_at : List (CheckFor A) → ℕ → Bool

@@ -1,8 +1,10 @@
 // Numbers of two and of four bytes, big-endian, read from a slice and written to one. Every place is taken: a byte
-// past the end reads as 0, and is not written. Whether settings fit is in `settings`, whether a capture's size does in `capture`.
+// past the end reads as 0, and is not written. Refusals are in `refusal`, whether settings fit in `settings`, whether a capture's size
+// does in `capture`.
 #![tactic(auto)]
 
 pub mod capture;
+pub mod refusal;
 pub mod settings;
 
 ghost use Rattle.std.specs.Prelude.{◌≡◌, get_or, set};
