@@ -1,129 +1,185 @@
-// What the writer is handed, and the example book of 01.
+// Contents and bodies for the writer, and the example book.
 use book::{Contents, Entry};
+use std::alloc::{AllocError, Global};
+use std::fmt;
 
-// How many bytes that book has, and where its bodies start.
-pub(crate) const PAPER: usize = 46;
+// How many bytes of bodies are made, and of output are lent to the writer.
+pub(crate) const ROOM: usize = 65600;
 
+// The example book: the contents entry by entry, then the bodies step by step.
+pub(crate) const PAPER: &[u8; 46] = b"\x01\x02\
+    \x02\x00\x00\x00\x00\x03\x00\x00\x00\x1A\x00\x03\
+    \x02\x00\x00\x00\x00\x03\x00\x00\x00\x26\x00\x02\
+    \x00\x08\xA2\x08\x22\x28\xA2\x28\x22\x28\x62\x28\
+    \x00\x08\xA2\x08\x22\x28\xA2\x08";
+
+// Where its bodies start.
 const BODIES: usize = 26;
 
-// The contents entry by entry, then the bodies step by step.
-pub(crate) fn put_paper(book: &mut [u8]) {
-    if book.len() < PAPER {
-        return;
-    }
-    book[..BODIES].copy_from_slice(
-        b"\x01\x02\x02\x00\x00\x00\x00\x03\x00\x00\x00\x1A\x00\x03\x02\x00\x00\x00\x00\x03\x00\x00\x00\x26\x00\x02",
-    );
-    book[BODIES..PAPER].copy_from_slice(
-        b"\x00\x08\xA2\x08\x22\x28\xA2\x28\x22\x28\x62\x28\x00\x08\xA2\x08\x22\x28\xA2\x08",
-    );
-}
+// The writer does not look at the offset.
+pub(crate) const PLACE: Entry = Entry {
+    n: 1,
+    spare: 0,
+    mask: 0,
+    w: 0,
+    offset: 12345678,
+    steps: 0,
+};
 
-pub(crate) fn paper_bodies(book: &[u8]) -> &[u8] {
-    if book.len() < BODIES {
-        book
-    } else {
-        &book[BODIES..]
-    }
-}
+// A place past the count, which the writer does not look at: it would be refused.
+pub(crate) const UNSEEN: Entry = Entry {
+    n: 0,
+    spare: 9,
+    mask: 9,
+    w: 9,
+    offset: 12345678,
+    steps: 9,
+};
 
 // Byte j is 7 j + 3.
-pub(crate) fn fill_by_rule(bytes: &mut [u8]) {
-    let mut i = 0;
-    while i < bytes.len() {
-        bytes[i] = ((i % 256 * 7 + 3) % 256) as u8;
-        i += 1;
-    }
-}
-
-pub(crate) fn fill(bytes: &mut [u8], b: u8) {
-    let mut i = 0;
-    while i < bytes.len() {
-        bytes[i] = b;
-        i += 1;
-    }
+pub(crate) fn bodies_by_rule(alloc: Global) -> Result<Vec<u8>, AllocError> {
+    (0..ROOM)
+        .map(|j| ((j % 256 * 7 + 3) % 256) as u8)
+        .collect(alloc)
 }
 
 // The first n bytes, or all where there are fewer.
 pub(crate) fn front(bytes: &[u8], n: usize) -> &[u8] {
-    if bytes.len() < n { bytes } else { &bytes[..n] }
+    &bytes[..n.min(bytes.len())]
 }
 
-// The writer does not look at the offset.
-pub(crate) fn place(n: u8, spare: u8, mask: u16, w: u16, steps: u16) -> Entry {
+#[derive(Clone, Copy, Debug, PartialEq, Eq)]
+pub(crate) enum Draft {
+    Empty,
+    Paper,
+    Still,
+    Many,
+    Quiet,
+    Largest,
+}
+
+fn paper(i: usize) -> Entry {
     Entry {
-        n,
-        spare,
-        mask,
-        w,
-        offset: 12345678,
-        steps,
+        n: 2,
+        w: 3,
+        steps: if i == 0 { 3 } else { 2 },
+        ..PLACE
     }
 }
 
-// A place past the count, which the writer does not look at: it would be refused.
-pub(crate) fn unseen() -> Entry {
-    place(0, 9, 9, 9, 9)
-}
-
-fn still_place(i: u16) -> Entry {
-    if i == 0 {
-        return place(1, 0, 0, 0, 0);
+fn still(i: usize) -> Entry {
+    match i {
+        0 => PLACE,
+        1 => Entry {
+            n: 14,
+            mask: 16383,
+            w: 1,
+            steps: 1,
+            ..PLACE
+        },
+        _ => Entry {
+            mask: 1,
+            w: 65535,
+            ..PLACE
+        },
     }
-    if i == 1 {
-        return place(14, 0, 16383, 1, 1);
-    }
-    place(1, 0, 1, 65535, 0)
 }
 
 // Every n, with masks that fit it, and every other one with hold.
-fn many_place(i: u16) -> Entry {
-    let j = i % 64;
+fn many(i: usize) -> Entry {
+    let j = (i % 64) as u16;
     let k = j % 14;
-    let mask = (1000 * j + 7) >> (15 - k);
-    place((k + 1) as u8, (j % 2) as u8, mask, 65535 - j, j % 5)
+    Entry {
+        n: (k + 1) as u8,
+        spare: (j % 2) as u8,
+        mask: (1000 * j + 7) >> (15 - k),
+        w: 65535 - j,
+        steps: j % 5,
+        ..PLACE
+    }
 }
 
 // Every n, with all sections of high priority, and with hold.
-fn quiet_place(i: u16) -> Entry {
-    let k = i % 14;
-    let mask = 65535 >> (2 + k);
-    place((14 - k) as u8, 1, mask, 300, 0)
-}
-
-// The contents by number: empty, paper, still, many, quiet, largest.
-fn place_of(kind: usize, i: u16) -> Entry {
-    match kind {
-        1 => place(2, 0, 0, 3, 3 - i % 2),
-        2 => still_place(i),
-        3 => many_place(i),
-        4 => quiet_place(i),
-        _ => place(14, 0, 10922, 300, 16380),
+fn quiet(i: usize) -> Entry {
+    let k = (i % 14) as u8;
+    Entry {
+        n: 14 - k,
+        spare: 1,
+        mask: 65535 >> (2 + k),
+        w: 300,
+        ..PLACE
     }
 }
 
-const COUNTS: [u8; 6] = [0, 2, 3, 64, 64, 1];
+const LARGEST: Entry = Entry {
+    n: 14,
+    mask: 10922,
+    w: 300,
+    steps: 16380,
+    ..PLACE
+};
 
-fn wide(b: u8) -> u16 {
-    b as u16
-}
+impl Draft {
+    pub(crate) const ALL: [Draft; 6] = [
+        Draft::Empty,
+        Draft::Paper,
+        Draft::Still,
+        Draft::Many,
+        Draft::Quiet,
+        Draft::Largest,
+    ];
 
-pub(crate) fn draft(kind: usize) -> Contents {
-    let count = COUNTS[kind % 6];
-    let mut entries = [unseen(); 64];
-    let mut i: u16 = 0;
-    while i < 64 {
-        if i < wide(count) {
-            entries[i as usize] = place_of(kind, i);
+    fn count(self) -> u8 {
+        match self {
+            Draft::Empty => 0,
+            Draft::Paper => 2,
+            Draft::Still => 3,
+            Draft::Many | Draft::Quiet => 64,
+            Draft::Largest => 1,
         }
-        i += 1;
     }
-    Contents { count, entries }
+
+    fn entry(self, i: usize) -> Entry {
+        match self {
+            Draft::Empty => UNSEEN,
+            Draft::Paper => paper(i),
+            Draft::Still => still(i),
+            Draft::Many => many(i),
+            Draft::Quiet => quiet(i),
+            Draft::Largest => LARGEST,
+        }
+    }
+
+    pub(crate) fn contents(self) -> Contents {
+        let count = self.count();
+        let mut entries = [UNSEEN; 64];
+        for (i, e) in entries.iter_mut().enumerate().take(usize::from(count)) {
+            *e = self.entry(i);
+        }
+        Contents { count, entries }
+    }
+
+    // As many bytes as the steps call for: the example's bodies are its own, all others by the rule.
+    pub(crate) fn bodies(self, by_rule: &[u8]) -> &[u8] {
+        match self {
+            Draft::Empty | Draft::Quiet => &[],
+            Draft::Paper => PAPER.split_at(BODIES).1,
+            Draft::Still => front(by_rule, 4),
+            Draft::Many => front(by_rule, 504),
+            Draft::Largest => front(by_rule, 65520),
+        }
+    }
 }
 
-// As many bytes of joined bodies as the steps of each call for.
-const SIZES: [usize; 6] = [0, 20, 4, 504, 0, 65520];
-
-pub(crate) fn bodies_of(kind: usize) -> usize {
-    SIZES[kind % 6]
+impl fmt::Display for Draft {
+    fn fmt<W: fmt::Write>(&self, f: &mut fmt::Formatter<W>) -> fmt::Result {
+        f.write_str(match self {
+            Draft::Empty => "empty",
+            Draft::Paper => "paper",
+            Draft::Still => "still",
+            Draft::Many => "many",
+            Draft::Quiet => "quiet",
+            Draft::Largest => "largest",
+        })
+    }
 }

@@ -1,26 +1,19 @@
 // Contents in bytes by themselves, as the writer takes them: the count, then 64 places.
-use basics::{put_four, put_two};
 use book::{Contents, Entry};
 
-fn put_place(out: &mut [u8], i: usize, e: Entry) {
-    let at = 1 + 12 * (i % 64);
-    put_two(out, at, (e.n as u16) * 256 + e.spare as u16);
-    put_two(out, at + 2, e.mask);
-    put_two(out, at + 4, e.w);
-    put_four(out, at + 6, e.offset);
-    put_two(out, at + 10, e.steps);
+fn entry_bytes(e: &Entry) -> [u8; 12] {
+    let [m1, m2] = e.mask.to_be_bytes();
+    let [w1, w2] = e.w.to_be_bytes();
+    let [o1, o2, o3, o4] = e.offset.to_be_bytes();
+    let [s1, s2] = e.steps.to_be_bytes();
+    [e.n, e.spare, m1, m2, w1, w2, o1, o2, o3, o4, s1, s2]
 }
 
-pub(crate) fn put_list(out: &mut [u8], contents: Contents) {
-    let entries = contents.entries;
-    if out.len() < 769 {
-        return;
+pub(crate) fn contents_bytes(contents: &Contents) -> [u8; 769] {
+    let mut list = [0; 769];
+    list[0] = contents.count;
+    for (place, e) in list[1..].chunks_exact_mut(12).zip(&contents.entries) {
+        place.copy_from_slice(&entry_bytes(e));
     }
-    out[0] = contents.count;
-    let mut i = 0;
-    while i < 64 {
-        let e = entries[i];
-        put_place(out, i, e);
-        i += 1;
-    }
+    list
 }

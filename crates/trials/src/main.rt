@@ -2,30 +2,30 @@
 // once, every value of each byte of the contents, every length, settings, and the body of any entry.
 #![tactic(auto)]
 
+mod answers;
 mod digest;
 mod drafts;
-mod faults;
 mod listing;
 mod parts;
+mod reader;
 mod rounds;
 mod settings;
 mod writer;
 
-const ROOM: usize = 65600;
+use std::io;
+use std::io::{BufWriter, Write};
 
-fn main() {
-    let mut bodies = [0u8; ROOM];
-    let mut paper = [0u8; drafts::PAPER];
-    let mut out = [0u8; ROOM];
-    let mut joined = [0u8; ROOM];
-    drafts::fill_by_rule(&mut bodies);
-    drafts::put_paper(&mut paper);
-    rounds::print_rounds(&bodies, &paper, &mut out, &mut joined);
-    let mut book = [0u8; ROOM];
-    faults::print_faults(&mut book);
-    faults::print_damage(&mut book);
-    settings::print_reader(&mut book);
-    writer::print_calls(&bodies, &mut out);
-    settings::print_writer(&bodies, &mut out);
-    parts::print_parts(&paper);
+fn main(rt: HostRuntime) -> io::Result<()> {
+    let alloc = rt.alloc();
+    let bodies = drafts::bodies_by_rule(alloc)?;
+    let mut to = BufWriter::new(alloc, io::writer(&rt))?;
+    rounds::print_rounds(&mut to, alloc, &bodies)?;
+    reader::print_faults(&mut to, alloc)?;
+    reader::print_bytes(&mut to, alloc)?;
+    reader::print_lengths(&mut to)?;
+    settings::print_reader(&mut to, alloc)?;
+    writer::print_calls(&mut to, alloc, &bodies)?;
+    settings::print_writer(&mut to, alloc, &bodies)?;
+    parts::print_parts(&mut to)?;
+    to.flush()
 }

@@ -1,55 +1,45 @@
 // Settings of the last entry: each n from 0 to 16, with no section of high priority and with each one bit of the mask.
-use crate::drafts::{PAPER, put_paper};
-use crate::faults::{refusal_of, set_byte};
+use crate::answers::{read, refusal};
+use crate::reader::Change::Byte;
+use crate::reader::changed;
 use crate::writer::refusal_with;
-use basics::put_two;
-use text::{print, print_byte, print_labelled, print_number};
+use std::alloc::{AllocError, Global};
+use std::io;
+use std::io::Write;
 
 const MASKS: [u16; 17] = [
     0, 1, 2, 4, 8, 16, 32, 64, 128, 256, 512, 1024, 2048, 4096, 8192, 16384, 32768,
 ];
 
-fn read_with(book: &mut [u8], n: u8, mask: u16) -> u8 {
-    put_paper(book);
-    set_byte(book, 14, n);
-    put_two(book, 16, mask);
-    refusal_of(book, PAPER)
+// The refusal at each n and mask.
+fn print_refusals<W: Write, F: Fn(u8, u16) -> Result<u8, AllocError>>(
+    to: &mut W,
+    refusal_at: F,
+) -> io::Result<()>
+    requires { F.IsAlwaysCallable refusal_at }
+{
+    for n in 0..=16 {
+        write!(to, "{n}")?;
+        for mask in MASKS {
+            write!(to, " {}", refusal_at(n, mask)?)?;
+        }
+        writeln!(to)?;
+    }
+    Ok(())
 }
 
-fn print_read(book: &mut [u8], n: u8) {
-    print_number(n as u64);
-    let mut i = 0;
-    while i < 17 {
-        print_labelled(b" ", read_with(book, n, MASKS[i]) as u64);
-        i += 1;
-    }
-    print_byte(b'\n');
+fn read_with(alloc: Global, n: u8, mask: u16) -> Result<u8, AllocError> {
+    let [high, low] = mask.to_be_bytes();
+    let book = changed(alloc, &[Byte(14, n), Byte(16, high), Byte(17, low)])?;
+    Ok(refusal(&read(&book)))
 }
 
-pub(crate) fn print_reader(book: &mut [u8]) {
-    print(b"reader settings\n");
-    let mut n = 0;
-    while n < 17 {
-        print_read(book, n);
-        n += 1;
-    }
+pub(crate) fn print_reader<W: Write>(to: &mut W, alloc: Global) -> io::Result<()> {
+    writeln!(to, "reader settings")?;
+    print_refusals(to, |n, mask| read_with(alloc, n, mask))
 }
 
-fn print_write(bodies: &[u8], out: &mut [u8], n: u8) {
-    print_number(n as u64);
-    let mut i = 0;
-    while i < 17 {
-        print_labelled(b" ", refusal_with(n, MASKS[i], bodies, out) as u64);
-        i += 1;
-    }
-    print_byte(b'\n');
-}
-
-pub(crate) fn print_writer(bodies: &[u8], out: &mut [u8]) {
-    print(b"writer settings\n");
-    let mut n = 0;
-    while n < 17 {
-        print_write(bodies, out, n);
-        n += 1;
-    }
+pub(crate) fn print_writer<W: Write>(to: &mut W, alloc: Global, bodies: &[u8]) -> io::Result<()> {
+    writeln!(to, "writer settings")?;
+    print_refusals(to, |n, mask| refusal_with(alloc, n, mask, bodies))
 }

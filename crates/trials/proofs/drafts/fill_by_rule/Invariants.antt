@@ -1,9 +1,0 @@
--- The bytes keep their length.
-use Rattle.std.proofs.Common.{length, ◌≡◌, ◌≤◌, ◌-◌}
-use Rattle.trials.proofs.drafts.fill_by_rule.Given as goal
-
-abbrev pub invariant-loop-i : goal.invariant-loop-i
-invariant-loop-i l = (length l.bytes ≡ length l.fn.bytes) × (l.i ≤ length l.bytes)
-
-abbrev pub decreases-loop-i : goal.decreases-loop-i
-decreases-loop-i l = length l.bytes - l.i

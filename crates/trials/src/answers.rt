@@ -1,0 +1,108 @@
+// What reader and writer answered, and how it is printed.
+use crate::digest::{of_bytes, of_contents};
+use crate::drafts::{ROOM, front};
+use crate::listing::contents_bytes;
+use book::{Contents, Entry, Writing, write};
+use std::alloc::{AllocError, Global};
+use std::fmt;
+
+// The contents of a book that is refused.
+pub(crate) const NOTHING_READ: Contents = Contents {
+    count: 0,
+    entries: [Entry {
+        n: 0,
+        spare: 0,
+        mask: 0,
+        w: 0,
+        offset: 0,
+        steps: 0,
+    }; 64],
+};
+
+pub(crate) fn read(book: &[u8]) -> Result<Contents, u8> {
+    let reading = book::read(book);
+    if reading.refusal == 0 {
+        Ok(reading.contents)
+    } else {
+        Err(reading.refusal)
+    }
+}
+
+// The number of the refusal, or 0.
+pub(crate) fn refusal<T>(answer: &Result<T, u8>) -> u8 {
+    match answer {
+        Ok(_) => 0,
+        Err(refusal) => *refusal,
+    }
+}
+
+// Refusal, count and digest of what was read.
+#[derive(Clone, Copy)]
+pub(crate) struct Reading<'a>(pub(crate) &'a Result<Contents, u8>);
+
+impl fmt::Display for Reading<'_> {
+    fn fmt<W: fmt::Write>(&self, f: &mut fmt::Formatter<W>) -> fmt::Result {
+        let contents = self.0.as_ref().unwrap_or(&NOTHING_READ);
+        let digest = of_contents(contents);
+        write!(f, "{} {} {digest}", refusal(self.0), contents.count)
+    }
+}
+
+// The length and the digest of a body.
+#[derive(Clone, Copy)]
+pub(crate) struct Part<'a>(pub(crate) &'a [u8]);
+
+impl fmt::Display for Part<'_> {
+    fn fmt<W: fmt::Write>(&self, f: &mut fmt::Formatter<W>) -> fmt::Result {
+        write!(f, "{} {}", self.0.len(), of_bytes(self.0))
+    }
+}
+
+// What the writer answered, and all of the output.
+#[derive(Drop)]
+pub(crate) struct Written {
+    out: Vec<u8>,
+    answer: Result<usize, u8>,
+}
+
+impl Written {
+    pub(crate) fn new(
+        alloc: Global,
+        contents: &Contents,
+        bodies: &[u8],
+        room: usize,
+    ) -> Result<Written, AllocError> {
+        let mut out = vec![in alloc; 238; ROOM]?;
+        let room = room.min(out.len());
+        let answer = match write(&contents_bytes(contents), bodies, &mut out[..room]) {
+            Writing::Written(size) => Ok(size),
+            Writing::Refused(refusal) => Err(refusal),
+        };
+        Ok(Written { out, answer })
+    }
+
+    fn size(&self) -> usize {
+        self.answer.unwrap_or(0)
+    }
+
+    pub(crate) fn refusal(&self) -> u8 {
+        refusal(&self.answer)
+    }
+
+    pub(crate) fn book(&self) -> &[u8] {
+        front(&self.out, self.size())
+    }
+}
+
+// Refusal, size and digest of the output.
+impl fmt::Display for Written {
+    fn fmt<W: fmt::Write>(&self, f: &mut fmt::Formatter<W>) -> fmt::Result {
+        write!(
+            f,
+            "{} {} {}",
+            self.refusal(),
+            self.size(),
+            of_bytes(&self.out)
+        )
+    }
+}
