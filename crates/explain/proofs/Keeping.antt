@@ -170,38 +170,40 @@ module _ {hold : Bool} {bytes : List ℕ} {steps : ℕ} {begin possible : Record
     fits : Fit (next k.scan here)
     fits = next_fit k.scan here k.fit open_behind.0
 
-    pub sent_within : channel_of here.sent_k1 ≤ 14
-    unfolding next
-    sent_within = fits.sent
+    -- the row as it is read
+    module _ {r : Row} (read : r ≡ here) where
+      pub sent_within : channel_of r.sent_k1 ≤ 14
+      unfolding next
+      sent_within = rw read fits.sent
 
-    module _ {after : Records} (is : after ≡ followed possible here) where
-      follows : (after.controller ≡ (next k.scan here).controller) × (after.heard ≡ (next k.scan here).heard)
-      follows = rw is (followed_live k.scan here open_behind.0 possible k.same k.heard)
+      module _ {after : Records} (is : after ≡ followed possible r) where
+        follows : (after.controller ≡ (next k.scan here).controller) × (after.heard ≡ (next k.scan here).heard)
+        follows = rw (is, read) (followed_live k.scan here open_behind.0 possible k.same k.heard)
 
-      pub accepted_within : channel_of after.controller.k1 ≤ 14
-      accepted_within = rw follows.0 fits.accepted
+        pub accepted_within : channel_of after.controller.k1 ≤ 14
+        accepted_within = rw follows.0 fits.accepted
 
-      pub keeping_next : {word word2 : ℕ} → word ≡ conditions_kept possible.controller possible.heard here.sent_k1
-          → word2 ≡ command_kept hold possible.controller after.controller.k1 here.sent_k1
-          → Keeping hold bytes steps begin after old old2 (set table step word) (set table2 step word2) (step + 1)
-      keeping_next {word} {word2} e f =
-          let e' : word ≡ conditions_of k.scan here =
-          e ∙ (λ i. conditions_kept (k.same i) (k.heard i) here.sent_k1) in
-          let f' : word2 ≡ commands_of hold k.scan here =
-          f ∙ (λ i. command_kept hold (k.same i) (follows.0 i).k1 here.sent_k1) in
-          rw (add-one step)
-          record {
-            within = h;
-            inside = k.inside;
-            scan = next k.scan here;
-            same = follows.0;
-            heard = follows.1;
-            fit = fits;
-            alive = open_behind.1;
-            ends = ap (ended k.scan) (sym from_here) ∙ k.ends;
-            conditions = kept_next k.conditions here from_here in_rows e';
-            commands = kept_next k.commands here from_here in_rows f';
-          }
+        pub keeping_next : {word word2 : ℕ} → word ≡ conditions_kept possible.controller possible.heard r.sent_k1
+            → word2 ≡ command_kept hold possible.controller after.controller.k1 r.sent_k1
+            → Keeping hold bytes steps begin after old old2 (set table step word) (set table2 step word2) (step + 1)
+        keeping_next {word} {word2} e f =
+            let e' : word ≡ conditions_of k.scan here =
+            e ∙ (λ i. conditions_kept (k.same i) (k.heard i) (read i).sent_k1) in
+            let f' : word2 ≡ commands_of hold k.scan here =
+            f ∙ (λ i. command_kept hold (k.same i) (follows.0 i).k1 (read i).sent_k1) in
+            rw (add-one step)
+            record {
+              within = h;
+              inside = k.inside;
+              scan = next k.scan here;
+              same = follows.0;
+              heard = follows.1;
+              fit = fits;
+              alive = open_behind.1;
+              ends = ap (ended k.scan) (sym from_here) ∙ k.ends;
+              conditions = kept_next k.conditions here from_here in_rows e';
+              commands = kept_next k.commands here from_here in_rows f';
+            }
 
   module _ (h : steps ≤ step) where
     is_end : step ≡ steps

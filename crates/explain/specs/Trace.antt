@@ -11,12 +11,17 @@ use Rattle.controller.specs.Settings.{idle_k1, idle_k2, none_held}
 use Rattle.controller.specs.Rules.{asked, rank_of_request, held, is_wait, left_after, keeps_bridge, k2_of}
 use Rattle.controller.specs.Step.{wait_of}
 use Rattle.controller.specs.declared.Controller.{Controller}
-use Rattle.basics.specs.Capture.{Row, rows_of}
+use Rattle.basics.specs.Capture.{Row, row, rows_of}
 use Rattle.explain.specs.Cause.{commanded, arises, unseen, answers_at, answers}
 use Rattle.explain.specs.Scan.{Scanned, all, first, scan_from}
 use Rattle.explain.specs.Verdict.{Judging, explained_at, unexplained_at}
 use Rattle.explain.specs.declared.Heard.{Heard}
 use Rattle.explain.specs.declared.Records.{Records}
+use Rattle.explain.specs.declared.Row.{Row as RowRead}
+
+-- the row as a capture has it
+abbrev pub row_in : RowRead → Row
+row_in r = row r.k1 r.k2 r.sent_k1 r.sent_k2
 
 -- the record with 00 08 accepted
 abbrev pub idled : Controller → Controller

@@ -1,24 +1,22 @@
 // The tables of causes (02, a): on the way forward the cause of each step but for one thing, whether section 0 had failed
 // unseen, and two marks for it; on the way back that, since a later step alone can tell.
 ghost use Rattle.std.specs.Prelude.{◌%◌, ◌/◌, ◌≤◌, ◌<◌, length, take, ◌≡◌};
-ghost use Rattle.basics.specs.Capture.{row, rows_of, most};
+ghost use Rattle.basics.specs.Capture.{rows_of, most};
 ghost use Rattle.explain.specs.Filling.{heard_place, with_marks, conditions_kept, command_kept, followed, conditions_along, commands_along, ended, idle_back, settled_word, settled, Stored, Keeps, filled_steps, Fills};
-ghost use Rattle.explain.specs.Trace.{start, Fit, scanned};
+ghost use Rattle.explain.specs.Trace.{row_in, start, Fit, scanned};
 ghost use Rattle.explain.specs.Verdict.{told};
 ghost use Rattle.pair.specs.Marks.{channel_of};
-ghost use Rattle.pair.specs.Request.{requests};
-ghost use Rattle.pair.specs.Table.{table_of};
 
 use crate::cause::{is_local, may_hide, rank_held};
 use crate::shown::{command_word, conditions_word, deciding, louder};
-use crate::trace::{heard, opens, rank_at, record_after, scan};
-use crate::{Records, Verdict};
+use crate::table::Table;
+use crate::trace::{heard, opens, record_after, scan};
+use crate::{Records, Row, Verdict};
 use controller::Controller;
 use controller::asked::asked;
 use controller::command::held;
 use controller::wait::wait_of;
 use pair::mark::alarm;
-use pair::table::numbers;
 
 // The marks stand where no word of conditions has a bit: a group has no section 15.
 const HEARD: u32 = 0x4000_0000;
@@ -34,48 +32,44 @@ fn with_marks(word: u32, heard: bool, failed: bool) -> u32
     word + first + second
 }
 
-fn conditions_kept(s: Controller, heard: bool, sent1: u8) -> u32
-    requires { channel_of sent1 ≤ 14 }
-    ensures { result ≡ conditions_kept s heard sent1 }
+fn conditions_kept(s: Controller, heard: bool, sent: u8) -> u32
+    requires { channel_of sent ≤ 14 }
+    ensures { result ≡ conditions_kept s heard sent }
 {
-    let x = asked(sent1);
+    let x = asked(sent);
     let word = conditions_word(s.mask, x);
     with_marks(word, heard, may_hide(x))
 }
 
-fn command_kept(table: &[u16; 256], hold: bool, s: Controller, k1: u8, sent1: u8) -> u16
-    requires { (table.now ≡ table_of requests) × (channel_of s.sent ≤ 14) × (channel_of k1 ≤ 14) × (channel_of sent1 ≤ 14) }
-    ensures { result ≡ command_kept hold s k1 sent1 }
+fn command_kept(table: &Table, hold: bool, s: Controller, k1: u8, sent: u8) -> u16
+    requires { (channel_of s.sent ≤ 14) × (channel_of k1 ≤ 14) × (channel_of sent ≤ 14) }
+    ensures { result ≡ command_kept hold s k1 sent }
 {
     let last = asked(s.sent);
-    let x = asked(sent1);
+    let x = asked(sent);
     let now = wait_of(s, last, 0);
-    let prior = rank_held(held(last), rank_at(table, s.sent));
-    let rank = deciding(rank_at(table, k1), x, rank_at(table, sent1));
+    let prior = rank_held(held(last), table.rank_of(s.sent));
+    let rank = deciding(table.rank_of(k1), x, table.rank_of(sent));
     command_word(last, x, louder(hold, rank, prior, now))
 }
 
-// One row of a capture that is known to be explained.
-fn follow(table: &[u16; 256], d: Records, k1: u8, k2: u8, sent1: u8, sent2: u8) -> Records
-    requires { (table.now ≡ table_of requests) × Fit d × (channel_of sent1 ≤ 14) }
-    ensures { result ≡ followed d (row k1 k2 sent1 sent2) }
-{
-    let s = d.controller;
-    let now = wait_of(s, asked(s.sent), 0);
-    let x = asked(sent1);
-    let far = heard(table, s, k1, k2);
-    let opened = opens(
-        far.k1,
-        far.rank,
-        x,
-        rank_at(table, sent1),
-        sent2,
-        is_local(x),
-    );
-    Records {
-        controller: record_after(s, now, far.k1, far.k2, sent1),
-        heard: !alarm(k2) & opened & (far.fits | d.heard),
-        idle: false,
+impl Records {
+    // The next ones, in a capture that is known to be explained.
+    fn follow(self, table: &Table, row: Row) -> Records
+        requires { Fit self × (channel_of row.sent_k1 ≤ 14) }
+        ensures { result ≡ followed self (row_in row) }
+    {
+        let s = self.controller;
+        let now = wait_of(s, asked(s.sent), 0);
+        let x = asked(row.sent_k1);
+        let rank = table.rank_of(row.sent_k1);
+        let far = heard(table, s, row.k1, row.k2);
+        let opened = opens(far.k1, far.rank, x, rank, row.sent_k2, is_local(x));
+        Records {
+            controller: record_after(s, now, far.k1, far.k2, row.sent_k1),
+            heard: !alarm(row.k2) & opened & (far.fits | self.heard),
+            idle: false,
+        }
     }
 }
 
@@ -93,34 +87,16 @@ fn keep(
     ensures stored { Stored steps (conditions_along (start s) (take steps (rows_of capture.now))) conditions.old conditions.new }
     ensures stored_2 { Stored steps (commands_along hold (start s) (take steps (rows_of capture.now))) commands.old commands.new }
 {
-    let table = numbers();
-    let mut possible = Records {
-        controller: s,
-        heard: true,
-        idle: false,
-    };
-    let mut step = 0;
-    while step < steps {
-        let at = 4 * step;
-        let sent1 = capture[at + 2];
-        let after = follow(
-            &table,
-            possible,
-            capture[at],
-            capture[at + 1],
-            sent1,
-            capture[at + 3],
-        );
-        conditions[step] = conditions_kept(possible.controller, possible.heard, sent1);
-        commands[step] = command_kept(
-            &table,
-            hold,
-            possible.controller,
-            after.controller.k1,
-            sent1,
-        );
-        possible = after;
-        step += 1;
+    let table = Table::new();
+    let mut possible = Records::start(s);
+    for step in 0..steps {
+        let before = possible;
+        let row = Row::at(capture, 4 * step);
+        possible = before.follow(&table, row);
+        let s = before.controller;
+        let accepted = possible.controller.k1;
+        conditions[step] = conditions_kept(s, before.heard, row.sent_k1);
+        commands[step] = command_kept(&table, hold, s, accepted, row.sent_k1);
     }
     possible.heard
 }
@@ -138,11 +114,7 @@ fn settled_word(idle: bool, word: u32) -> u32
 fn idle_back(idle: bool, word: u32) -> bool
     ensures { result ≡ idle_back idle word }
 {
-    if idle & !(word / FAILED == 1) {
-        true
-    } else {
-        word / HEARD % 2 != 1
-    }
+    (idle & (word / FAILED != 1)) | (word / HEARD % 2 != 1)
 }
 
 // Back from the last step, behind which the record has the idle pair accepted or not.
@@ -151,9 +123,7 @@ fn settle(idle: bool, steps: usize, conditions: &mut [u32])
     ensures { Stored steps (settled idle (take steps conditions.old)) conditions.old conditions.new }
 {
     let mut behind = idle;
-    let mut at = steps;
-    while 0 < at {
-        at -= 1;
+    for at in (0..steps).rev() {
         let word = conditions[at];
         conditions[at] = settled_word(behind, word);
         behind = idle_back(behind, word);
@@ -166,8 +136,7 @@ fn filled_steps(verdict: Verdict, steps: usize) -> usize
 {
     match verdict {
         Verdict::Explained(_) => steps,
-        Verdict::Unexplained(_) => 0,
-        Verdict::Refused(_) => 0,
+        _ => 0,
     }
 }
 

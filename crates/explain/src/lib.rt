@@ -4,6 +4,7 @@
 mod cause;
 mod filling;
 mod shown;
+mod table;
 mod trace;
 
 ghost use Rattle.std.specs.Prelude.{◌/◌, ◌++◌, ◌≡◌};
@@ -88,6 +89,15 @@ pub(crate) struct Records {
     pub controller: Controller,
     pub heard: bool,
     pub idle: bool,
+}
+
+// A row: the pair that is received, and the one that is sent.
+#[derive(Clone, Copy)]
+pub(crate) struct Row {
+    pub k1: u8,
+    pub k2: u8,
+    pub sent_k1: u8,
+    pub sent_k2: u8,
 }
 
 // The pair that is accepted behind a row unless section 0 has failed: the received one, if it fits, else the one before; and

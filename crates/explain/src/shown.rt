@@ -10,15 +10,13 @@ use request::Request;
 fn bad_for(mask: u16, x: Request) -> u8
     ensures { result ≡ bad_for mask x }
 {
-    let degraded = condition(mask, x.channel, 1);
-    let failed = condition(mask, x.channel, 2);
-    if x.code == degraded.code {
-        return 1;
+    if x.code == condition(mask, x.channel, 1).code {
+        1
+    } else if x.code == condition(mask, x.channel, 2).code {
+        2
+    } else {
+        0
     }
-    if x.code == failed.code {
-        return 2;
-    }
-    0
 }
 
 // Two bits per section, section 0 lowest.
@@ -26,8 +24,7 @@ pub(crate) fn conditions_word(mask: u16, x: Request) -> u32
     requires { x.channel ≤ 14 }
     ensures { result ≡ bad_for mask x * 4 ^ x.channel }
 {
-    let bad = bad_for(mask, x);
-    (bad as u32) << (2 * x.channel)
+    u32::from(bad_for(mask, x)) << (2 * x.channel)
 }
 
 pub(crate) fn louder(hold: bool, rank: u8, prior: u8, now: u16) -> bool
@@ -46,29 +43,25 @@ pub(crate) fn deciding(theirs: u8, x: Request, rank: u8) -> u8
 fn command_number(code: u8) -> u8
     ensures { result ≡ command_number code }
 {
-    if code == LOCKOUT {
-        return 2;
+    match code {
+        LOCKOUT => 2,
+        FORCED_SWITCH => 3,
+        _ => 4,
     }
-    if code == FORCED_SWITCH {
-        return 3;
-    }
-    4
 }
 
 // The command in the upper byte, its channel in the lower.
 pub(crate) fn command_word(last: Request, x: Request, loud: bool) -> u16
     ensures { result ≡ 256 * command_for last x loud + channel_for last x }
 {
-    let after = held(x);
-    let commands = after.code != NOTHING;
+    let commands = held(x).code != NOTHING;
     let same = (x.code == last.code) & (x.channel == last.channel);
-    if commands & !same {
-        let number = command_number(x.code);
-        return 256 * (number as u16) + x.channel as u16;
-    }
     let goes_on = commands | (x.code == WAIT_TO_RESTORE);
-    if !goes_on & loud {
-        return 256;
+    if commands & !same {
+        u16::from_be_bytes([command_number(x.code), x.channel])
+    } else if !goes_on & loud {
+        256
+    } else {
+        0
     }
-    0
 }

@@ -13,7 +13,7 @@ returns c =
     let now = c.wait_of-now.ensures ∙ (λ i. wait_of s (last i) 0) in
     let kept = c.held.ensures ∙ (λ i. held (last i)) in
     let prior =
-    c.rank_held-prior.ensures ∙ (λ i. rank_held (kept i) (c.rank_at.ensures i)) ∙ held_rank (asked s.sent) in
-    let rank = c.deciding-rank.ensures ∙ (λ i. deciding (c.rank_at-2.ensures i) (x i) (c.rank_at-3.ensures i)) in
+    c.rank_held-prior.ensures ∙ (λ i. rank_held (kept i) (c.rank_of.ensures i)) ∙ held_rank (asked s.sent) in
+    let rank = c.deciding-rank.ensures ∙ (λ i. deciding (c.rank_of-2.ensures i) (x i) (c.rank_of-3.ensures i)) in
     let loud = c.louder.ensures ∙ (λ i. louder c.args.hold (rank i) (prior i) (now i)) in
     c.command_word.ensures ∙ (λ i. 256 * command_for (last i) (x i) (loud i) + channel_for (last i) (x i))

@@ -1,25 +1,24 @@
 use Rattle.explain.proofs.Keeping.{loop_fit, sent_within, accepted_within, keeping_next}
 use Rattle.explain.proofs.filling.keep.Goals as goal
 
-pub follow-after-requires : goal.follow-after-requires
-follow-after-requires c =
+pub follow-possible-requires : goal.follow-possible-requires
+follow-possible-requires c =
     let held = c.loop-step.invariant in
-    (c.numbers-table.ensures, loop_fit held, sent_within held c.loop-step-test.true)
+    (loop_fit held, sent_within held c.loop-step-test.true c.at-row.ensures)
 
 pub conditions_kept-requires : goal.conditions_kept-requires
-conditions_kept-requires c = sent_within c.loop-step.invariant c.loop-step-test.true
+conditions_kept-requires c = sent_within c.loop-step.invariant c.loop-step-test.true c.at-row.ensures
 
 pub command_kept-requires : goal.command_kept-requires
 command_kept-requires c =
     let held = c.loop-step.invariant in
     let more = c.loop-step-test.true in (
-      c.numbers-table.ensures,
       (loop_fit held).sent,
-      accepted_within held more c.follow-after.ensures,
-      sent_within held more,
+      accepted_within held more c.at-row.ensures c.follow-possible.ensures,
+      sent_within held more c.at-row.ensures,
     )
 
 pub loop-step-preserved : goal.loop-step-preserved
 loop-step-preserved c =
-    keeping_next c.loop-step.invariant c.loop-step-test.true c.follow-after.ensures c.conditions_kept.ensures
-    c.command_kept.ensures
+    keeping_next c.loop-step.invariant c.loop-step-test.true c.at-row.ensures c.follow-possible.ensures
+    c.conditions_kept.ensures c.command_kept.ensures

@@ -1,5 +1,4 @@
 -- At each step both tables have what is written of the steps before it.
-use Rattle.std.proofs.Common.{◌-◌}
 use Rattle.explain.proofs.Keeping.{Keeping}
 use Rattle.explain.proofs.filling.keep.Given as goal
 
@@ -7,6 +6,3 @@ abbrev pub invariant-loop-step : goal.invariant-loop-step
 invariant-loop-step l =
     Keeping l.hold l.capture l.steps l.initial.possible l.possible l.fn.conditions l.fn.commands l.conditions l.commands
     l.step
-
-abbrev pub decreases-loop-step : goal.decreases-loop-step
-decreases-loop-step l = l.steps - l.step

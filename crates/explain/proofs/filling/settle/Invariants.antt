@@ -4,6 +4,3 @@ use Rattle.explain.proofs.filling.settle.Given as goal
 
 abbrev pub invariant-loop-at : goal.invariant-loop-at
 invariant-loop-at l = Settling l.idle l.steps l.fn.conditions l.conditions l.behind l.at
-
-abbrev pub decreases-loop-at : goal.decreases-loop-at
-decreases-loop-at l = l.at
