@@ -123,6 +123,7 @@ fn settle(idle: bool, steps: usize, conditions: &mut [u32])
     ensures { Stored steps (settled idle (take steps conditions.old)) conditions.old conditions.new }
 {
     let mut behind = idle;
+    // By index: of what is written through a reversed `iter_mut` no proof knows anything afterwards.
     for at in (0..steps).rev() {
         let word = conditions[at];
         conditions[at] = settled_word(behind, word);

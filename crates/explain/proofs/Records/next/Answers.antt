@@ -1,5 +1,5 @@
 -- A look at the table gives what the rows say of the sent K1.
-use Rattle.std.proofs.Common.{ap, ◌∙◌, not, ◌&&◌, ◌||◌, ℕ}
+use Rattle.std.proofs.Common.{ap, ◌∙◌, not, ◌&&◌, ℕ}
 use Rattle.pair.specs.Request.{requests}
 use Rattle.pair.specs.Table.{value_in, usable_in}
 use Rattle.pair.proofs.Looking.{usable_looked}

@@ -1,4 +1,4 @@
-use Rattle.std.proofs.Common.{rules, ◌∙◌}
+use Rattle.std.proofs.Common.{rules}
 use Rattle.pair.specs.Request.{requests}
 use Rattle.pair.proofs.Looking.{number_at}
 use Rattle.explain.proofs.table.Table.number.Goals as goal
