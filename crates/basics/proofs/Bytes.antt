@@ -2,13 +2,19 @@
 -- one behind the other, are one; what was written is read back.
 use mathlib.Core.Path.{◌≡◌, refl, sym, ap, ◌∙◌}
 use mathlib.Core.List.{List, [], ◌∷◌, ◌++◌, append_assoc, append-nil}
-use Prim.Native.Nat.{ℕ, suc, ◌+◌, ◌-◌, ◌≤◌, ◌<◌, ◌/◌, ◌%◌}
+use mathlib.Core.Logic.{◌⊎◌, inl, inr}
+use Prim.Native.Nat.{ℕ, zero, suc, ◌+◌, ◌-◌, ◌*◌, ◌^◌, ◌≤◌, ◌<◌, ◌/◌, ◌%◌}
 use native.Mathlib.Nat.{add-zero, zero-add, add-suc, suc-add}
 use native.Mathlib.Numerals.{add-one}
 use native.Mathlib.Omega.{arith}
-use lib.ListN.{length, get_or, set, take, drop, length-set, length-drop, drop_of_length-le, get_or-eq_default}
+use Rattle.std.specs.Int.{w16, w32, to_be_bytes, from_be_bytes}
+use Rattle.std.specs.Ordering.{ord_min, nat_cmp}
+use Rattle.std.proofs.lemmas.List.{drop-replicate}
+use lib.Seq.{drop-cons}
+use lib.ListN.{replicate, length, get_or, set, take, drop, length-set, length-drop, drop_of_length-le, get_or-eq_default}
 use lib.Seq.{set_out, set_comm, sets, sets-eq, length-sets, get_or-set_same, get_or-set_other, drop-drop, take_all, take-length}
-use Rattle.basics.specs.Bytes.{two_at, four_at, two_bytes, four_bytes}
+use Rattle.std.proofs.lemmas.List.{length-take, take-append-drop}
+use Rattle.basics.specs.Bytes.{two_at, four_at, two_bytes, four_bytes, bytes_at}
 
 pub two_past : (bytes : List ℕ) (at : ℕ) → length bytes ≤ at → two_at bytes at ≡ 0
 unfolding two_at
@@ -124,3 +130,86 @@ four_back bytes at v h =
     let low : two_at (sets first (at + 2) (two_bytes (v % 65536))) (at + 2) ≡ v % 65536 =
     two_back first (at + 2) (v % 65536) (omega (arith, length-sets bytes at (two_bytes (v / 65536)))) in
     rw (← halves) (omega arith)
+
+-- the library's numbers of two and of four bytes, the high one first, and their bytes
+pub be_two : (a b : ℕ) → from_be_bytes w16 (a ∷ b ∷ []) ≡ a * 256 + b
+be_two a b = omega arith
+
+pub be_four : (a b c d : ℕ) → from_be_bytes w32 (a ∷ b ∷ c ∷ d ∷ []) ≡ (a * 256 + b) * 65536 + (c * 256 + d)
+be_four a b c d = omega arith
+
+pub two_be : (v : ℕ) → v < 2 ^ 16 → to_be_bytes w16 v ≡ two_bytes v
+two_be v h =
+    let high : v / 256 % 256 ≡ v / 256 = omega arith in
+    rw high
+
+pub four_be : (v : ℕ) → v < 2 ^ 32 → to_be_bytes w32 v ≡ four_bytes v
+four_be v h =
+    let first : v / 16777216 % 256 ≡ v / 65536 / 256 = omega arith in
+    let second : v / 65536 % 256 ≡ v / 65536 % 256 = refl in
+    let third : v / 256 % 256 ≡ v % 65536 / 256 = omega arith in
+    let fourth : v % 256 ≡ v % 65536 % 256 = omega arith in
+    rw (first, third, fourth)
+
+-- as many bytes from a place on: those that are there, and zeros past the end
+bytes_there : (size : ℕ) (s : List ℕ) (at : ℕ) → at + size ≤ length s → bytes_at size s at ≡ take size (drop at s)
+bytes_there zero s at h = refl
+bytes_there (suc size) s at h =
+    let in_s : at < length s = omega arith in
+    rw (drop-cons s at 0) (ap (λ (l : List ℕ). get_or s at 0 ∷ l) (bytes_there size s (suc at) (omega arith)))
+
+bytes_past : (size : ℕ) (s : List ℕ) (at : ℕ) → length s ≤ at → bytes_at size s at ≡ replicate size 0
+bytes_past zero s at h = refl
+bytes_past (suc size) s at h =
+    rw (get_or-eq_default s 0 h) (ap (λ (l : List ℕ). 0 ∷ l) (bytes_past size s (suc at) (omega arith)))
+
+bytes_split : (a b : ℕ) (s : List ℕ) (at : ℕ) → bytes_at (a + b) s at ≡ bytes_at a s at ++ bytes_at b s (at + a)
+bytes_split zero b s at = rw (zero-add, add-zero)
+bytes_split (suc a) b s at =
+    rw (suc-add, add-suc) (ap (λ (l : List ℕ). get_or s at 0 ∷ l) (bytes_split a b s (suc at) ∙ rw suc-add))
+
+-- what taking up as many as are there, over zeros, gives
+pub bytes_taken : (size few : ℕ) (s : List ℕ) (at : ℕ) → few ≤ size → at + few ≤ length s
+    → (few ≡ size) ⊎ (at + few ≡ length s)
+    → take few (drop at s) ++ drop few (replicate size 0) ≡ bytes_at size s at
+bytes_taken size few s at le fits all =
+    let sum : few + (size - few) ≡ size = omega arith in
+    let rest : bytes_at (size - few) s (at + few) ≡ replicate (size - few) 0 =
+    elim all [
+      | inl e ↦ (let none : size - few ≡ 0 = omega arith in rw none)
+      | inr e ↦ bytes_past (size - few) s (at + few) (omega arith)
+    ] in
+    rw (drop-replicate {X = ℕ} few size 0, ← rest, ← bytes_there few s at fits, ← bytes_split few (size - few) s at, sum)
+
+pub none_taken : (size : ℕ) (s : List ℕ) (at : ℕ) → length s ≤ at → replicate size 0 ≡ bytes_at size s at
+none_taken size s at h = sym (bytes_past size s at h)
+
+-- what is left once as many as have room are put over a part
+pub some_put : (bytes s : List ℕ) (at few : ℕ) → few ≤ length bytes → at + few ≤ length s
+    → (few ≡ length bytes) ⊎ (at + few ≡ length s)
+    → take at s ++ (take few bytes ++ drop (at + few) s) ≡ sets s at bytes
+some_put bytes s at few le fits all =
+    let size : length (take few bytes) ≡ few = simp length-take (omega arith) in
+    let first : sets s at (take few bytes) ≡ take at s ++ (take few bytes ++ drop (at + few) s) =
+    sets-eq (take few bytes) s at (omega arith) ∙ rw (size, append_assoc) in
+    let rest : sets (sets s at (take few bytes)) (at + few) (drop few bytes) ≡ sets s at (take few bytes) =
+    elim all [
+      | inl e ↦ (let none : drop few bytes ≡ [] = drop_of_length-le bytes (omega arith) in rw none)
+      | inr e ↦ sets_past (drop few bytes) (sets s at (take few bytes)) (at + few) (omega (arith, length-sets s at (take few bytes)))
+    ] in
+    let both : sets (sets s at (take few bytes)) (at + few) (drop few bytes) ≡ sets s at bytes =
+    ap (λ (k : ℕ). sets (sets s at (take few bytes)) (at + k) (drop few bytes)) (sym size)
+    ∙ sets_append (take few bytes) (drop few bytes) s at ∙ rw (take-append-drop few bytes) in
+    sym first ∙ sym rest ∙ both
+
+-- the lesser of a number and of what is left of a size from a place on
+pub lesser : (a size at m : ℕ) → at ≤ size → m ≡ ord_min nat_cmp a (size - at)
+    → (m ≤ a) × (at + m ≤ size) × ((m ≡ a) ⊎ (at + m ≡ size))
+lesser a size at m le e =
+    elim (least a (size - at) m e) as (λ _. (m ≤ a) × (at + m ≤ size) × ((m ≡ a) ⊎ (at + m ≡ size))) [
+      | inl h ↦ (omega arith, omega arith, inl h.0)
+      | inr h ↦ (omega arith, omega arith, inr (omega arith))
+    ]
+  where
+    least : (a b m : ℕ) → m ≡ ord_min nat_cmp a b → ((m ≡ a) × (a ≤ b)) ⊎ ((m ≡ b) × (b ≤ a))
+    least a b m e = grind arith
