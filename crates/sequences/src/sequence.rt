@@ -1,0 +1,109 @@
+// A sequence of steps of one controller, and how it is printed: its settings, and a line a step.
+use anyhow::{Result, anyhow};
+use controller::{Controller, Made, Outcome};
+use std::fmt;
+use std::io::Write;
+
+#[derive(Clone, Copy)]
+pub(crate) struct Settings {
+    pub n: u8,
+    pub hold: bool,
+    pub mask: u16,
+    pub w: u16,
+}
+
+// Two sections of low priority, W = 3, without hold, as most sequences have them.
+pub(crate) const TWO: Settings = Settings {
+    n: 2,
+    hold: false,
+    mask: 0,
+    w: 3,
+};
+
+pub(crate) fn fresh(s: Settings) -> Result<Controller> {
+    match Controller::fresh(s.n, s.hold, s.mask, s.w) {
+        Made::Fresh(controller) => Ok(controller),
+        Made::Refused(k) => Err(anyhow!("refused {k}")),
+    }
+}
+
+// The command of an operator, with the section that it names.
+#[derive(Clone, Copy)]
+pub(crate) enum Order {
+    Nothing,
+    Clear,
+    Lockout,
+    ForcedSwitch(u8),
+    ManualSwitch(u8),
+}
+
+impl Order {
+    // The command and the channel, as a step is handed them.
+    fn numbers(self) -> (u8, u8) {
+        match self {
+            Order::Nothing => (0, 0),
+            Order::Clear => (1, 0),
+            Order::Lockout => (2, 0),
+            Order::ForcedSwitch(c) => (3, c),
+            Order::ManualSwitch(c) => (4, c),
+        }
+    }
+}
+
+// What a step is handed: the received pair, the conditions and the command.
+#[derive(Clone, Copy)]
+pub(crate) struct Step(pub u8, pub u8, pub &'static [u8], pub Order);
+
+impl Step {
+    fn take(self, controller: Controller) -> Outcome {
+        let Step(k1, k2, conditions, order) = self;
+        let (command, channel) = order.numbers();
+        controller.step(k1, k2, conditions, command, channel)
+    }
+}
+
+impl fmt::Display for Step {
+    fn fmt<W: fmt::Write>(&self, f: &mut fmt::Formatter<W>) -> fmt::Result {
+        let Step(k1, k2, conditions, order) = *self;
+        write!(f, "{k1:02X} {k2:02X} ")?;
+        for condition in conditions {
+            write!(f, "{condition}")?;
+        }
+        let (command, channel) = order.numbers();
+        write!(f, " {command} {channel}")
+    }
+}
+
+// What a step answered, as it is printed.
+#[derive(Drop)]
+struct Answer(Outcome);
+
+impl fmt::Display for Answer {
+    fn fmt<W: fmt::Write>(&self, f: &mut fmt::Formatter<W>) -> fmt::Result {
+        let o = self.0;
+        write!(f, "{} {:02X} {:02X} ", o.refusal, o.k1, o.k2)?;
+        write!(f, "{} {} {} {}", o.bridge, o.selector, o.mark, o.fate)
+    }
+}
+
+#[derive(Clone, Copy)]
+pub(crate) struct Sequence {
+    pub name: &'static str,
+    pub settings: Settings,
+    pub steps: &'static [Step],
+}
+
+impl Sequence {
+    pub(crate) fn print(&self, out: &mut impl Write) -> Result<()> {
+        let Settings { n, hold, mask, w } = self.settings;
+        let held = if hold { " hold" } else { "" };
+        writeln!(out, "{}: n {n} mask {mask} W {w}{held}", self.name)?;
+        let mut controller = fresh(self.settings)?;
+        for step in self.steps {
+            let o = step.take(controller);
+            writeln!(out, "{step}: {}", Answer(o))?;
+            controller = o.controller;
+        }
+        Ok(())
+    }
+}
