@@ -156,17 +156,17 @@ bytes_there : (size : ℕ) (s : List ℕ) (at : ℕ) → at + size ≤ length s 
 bytes_there zero s at h = refl
 bytes_there (suc size) s at h =
     let in_s : at < length s = omega arith in
-    rw (drop-cons s at 0) (ap (λ (l : List ℕ). get_or s at 0 ∷ l) (bytes_there size s (suc at) (omega arith)))
+    rw (drop-cons s at 0, add-one) (ap (λ (l : List ℕ). get_or s at 0 ∷ l) (bytes_there size s (suc at) (omega arith)))
 
 bytes_past : (size : ℕ) (s : List ℕ) (at : ℕ) → length s ≤ at → bytes_at size s at ≡ replicate size 0
 bytes_past zero s at h = refl
 bytes_past (suc size) s at h =
-    rw (get_or-eq_default s 0 h) (ap (λ (l : List ℕ). 0 ∷ l) (bytes_past size s (suc at) (omega arith)))
+    rw (get_or-eq_default s 0 h, add-one) (ap (λ (l : List ℕ). 0 ∷ l) (bytes_past size s (suc at) (omega arith)))
 
 bytes_split : (a b : ℕ) (s : List ℕ) (at : ℕ) → bytes_at (a + b) s at ≡ bytes_at a s at ++ bytes_at b s (at + a)
 bytes_split zero b s at = rw (zero-add, add-zero)
 bytes_split (suc a) b s at =
-    rw (suc-add, add-suc) (ap (λ (l : List ℕ). get_or s at 0 ∷ l) (bytes_split a b s (suc at) ∙ rw suc-add))
+    rw (suc-add, add-suc at a, add-one at) (ap (λ (l : List ℕ). get_or s at 0 ∷ l) (bytes_split a b s (suc at) ∙ rw suc-add))
 
 -- what taking up as many as are there, over zeros, gives
 pub bytes_taken : (size few : ℕ) (s : List ℕ) (at : ℕ) → few ≤ size → at + few ≤ length s

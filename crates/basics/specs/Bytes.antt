@@ -16,4 +16,4 @@ four_bytes v = two_bytes (v / 65536) ++ two_bytes (v % 65536)
 -- as many bytes from a place on
 abbrev pub bytes_at : ℕ → List ℕ → ℕ → List ℕ
 bytes_at zero bytes at = []
-bytes_at (suc size) bytes at = get_or bytes at 0 ∷ bytes_at size bytes (suc at)
+bytes_at (suc size) bytes at = get_or bytes at 0 ∷ bytes_at size bytes (at + 1)

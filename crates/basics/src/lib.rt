@@ -25,12 +25,14 @@ fn bytes_at<const SIZE: usize>(s: &[u8], at: usize) -> [u8; SIZE]
     bytes
 }
 
+#[tactic(auto, unfolding(crate::specs::Bytes::two_at))]
 pub fn two_at(s: &[u8], at: usize) -> u16
     ensures { result ≡ two_at s.now at }
 {
     u16::from_be_bytes(bytes_at(s, at))
 }
 
+#[tactic(auto, unfolding(crate::specs::Bytes::two_at, crate::specs::Bytes::four_at))]
 pub fn four_at(s: &[u8], at: usize) -> u32
     ensures { result ≡ four_at s.now at }
 {
