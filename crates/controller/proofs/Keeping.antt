@@ -8,6 +8,7 @@ use native.Mathlib.Nat.{add-zero}
 use native.Mathlib.Omega.{arith}
 use lib.Dec.{ltb, leb, eqb}
 use lib.ListN.{length, drop}
+use Rattle.std.specs.Prelude.{Ok}
 use borrow.Author.Tests.{leb-true, eqb-true, eqb-false, le-leb, le-ltb, eq-eqb, ne_eqb}
 use Rattle.basics.specs.Table.{every}
 use Rattle.basics.specs.Settings.{sections_fit, mask_fits}
@@ -29,9 +30,8 @@ use Rattle.controller.specs.Refusals.{wait_fits, held_fits, acceptable, conditio
 use Rattle.controller.specs.Step.{protection, wait_of, refused_step, answering, moved, acts_on, step}
 use Rattle.controller.specs.Run.{Input, input_fits, step_by, not_refused, run}
 use Rattle.controller.specs.declared.Controller.{Controller}
-use Rattle.controller.specs.declared.Made.TheVariants as made
 use Rattle.controller.specs.declared.Accepted.{Accepted}
-use Rattle.controller.specs.declared.Outcome.{Outcome}
+use Rattle.controller.specs.Step.{Stepped}
 use Rattle.controller.proofs.Usability.{idle_usable}
 use Rattle.controller.proofs.Inputs.{well_formed, facts_acceptable}
 use Rattle.controller.proofs.Alarm.{acts_unrefused}
@@ -49,7 +49,7 @@ module _ (s : Controller) (far : Accepted) (sent : Request) (now : ℕ) (stands 
     (fits : sections_fit s.n ≡ true) (accepts : Usable s.n far) (channel : far.request.channel ≤ s.n)
     (able : Sendable s.n s.mask now sent) (within : now ≤ s.w) (kind : OfKind is_command stands)
     (standing : Sendable s.n s.mask now stands) where
-  abbrev answer : Outcome
+  abbrev answer : Stepped
   answer = answering s far sent now (held_after s.hold stands) fate
 
   room : (sent.code ≤ 15) × (sent.channel ≤ 14)
@@ -109,14 +109,14 @@ module _ (s : Controller) (far : Accepted) (sent : Request) (now : ℕ) (stands 
   answer_line = omega arith
 
 -- of a step that is not refused
-pub record Kept (s : Controller) (o : Outcome) : Type 0 where
+pub record Kept (s : Controller) (o : Stepped) : Type 0 where
   pub sections : o.controller.n ≡ s.n
   pub setting : o.controller.hold ≡ s.hold
   pub priorities : o.controller.mask ≡ s.mask
   pub wait : o.controller.w ≡ s.w
   pub accepts : acceptable o.controller ≡ true
 
-pub record Sent (s : Controller) (o : Outcome) : Type 0 where
+pub record Sent (s : Controller) (o : Stepped) : Type 0 where
   pub pair_usable : usable s.n o.k1 o.k2 ≡ true
   pub line : line_bits o.k2 ≡ 0b000
   pub recorded : o.k1 ≡ o.controller.sent
@@ -227,7 +227,7 @@ run_unrefused (i ∷ rest) s fits mask_Fits accepts well =
     kept.accepts (rw kept.sections both.1))
 
 -- a record that was made fresh
-module _ (n : ℕ) (hold : Bool) (mask w : ℕ) (s : Controller) (h : making_case (making n hold mask w) ≡ made.Fresh s) where
+module _ (n : ℕ) (hold : Bool) (mask w : ℕ) (s : Controller) (h : making_case (making n hold mask w) ≡ Ok s) where
   pub made_acceptable : acceptable s ≡ true
   made_acceptable = let facts = fresh_facts n hold mask w s h in rw facts.0 (fresh_acceptable n hold mask w facts.1)
 

@@ -4,12 +4,12 @@ pub mod Candidates
 pub mod Sections
 mod Nest
 pub mod Usability
-pub mod Conditions
 pub mod Inputs
 pub mod Alarm
 pub mod Sendable
 pub mod Sending
 pub mod Making
+pub mod Stepping
 pub mod Keeping
 mod Staying
 pub mod Ranking

@@ -30,8 +30,6 @@ pub record Nest : Type 0 where
   pub wait : Request
   pub ranks : List ℕ
   pub past_last : ℕ
-  pub command_rank : ℕ
-  pub wait_rank : ℕ
 
 module _ (nest : Nest) where
   -- Of the order within a rank no more is used than where a section is found.
@@ -53,10 +51,8 @@ module _ (nest : Nest) where
   abbrev asks_at : ℕ → Request
   asks_at c = asks nest.mask sections c
 
-  pub record Worked : Type 0 where
-    pub ranked : Ranked nest.mask sections nest.last nest.ranks (length sections) nest.past_last
-    pub command_is : nest.command_rank ≡ rank_of_request nest.command
-    pub wait_is : nest.wait_rank ≡ rank_of_request nest.wait
+  abbrev pub Worked : Type 0
+  Worked = Ranked nest.mask sections nest.last nest.ranks (length sections) nest.past_last
 
   -- no candidate has a rank above the asked one
   pub record Asked (asked : ℕ) : Type 0 where
@@ -72,13 +68,13 @@ module _ (nest : Nest) where
 
   -- the command and the wait have other ranks than the asked one, and so has whoever's turn was seen
   pub record Passed (asked : ℕ) (seen : ℕ → Type 0) : Type 0 where
-    pub command_other : nest.command_rank ≡ asked → ⊥
-    pub wait_other : nest.wait_rank ≡ asked → ⊥
+    pub command_other : rank_of_request nest.command ≡ asked → ⊥
+    pub wait_other : rank_of_request nest.wait ≡ asked → ⊥
     pub turns_other : (t : ℕ) → seen t → get_or nest.ranks t 0 ≡ asked → ⊥
 
   module _ (asked : ℕ) where
-    pub none_passed : (seen : ℕ → Type 0) → ((t : ℕ) → seen t → ⊥) → (nest.command_rank ≡ asked → ⊥)
-        → (nest.wait_rank ≡ asked → ⊥) → Passed asked seen
+    pub none_passed : (seen : ℕ → Type 0) → ((t : ℕ) → seen t → ⊥) → (rank_of_request nest.command ≡ asked → ⊥)
+        → (rank_of_request nest.wait ≡ asked → ⊥) → Passed asked seen
     none_passed seen none command_other wait_other =
         record {
           command_other = command_other;
@@ -122,16 +118,14 @@ module _ (nest : Nest) where
           best_asked rank_of_request order by no_request all x one (rw (none_rank, has) some) (rw has now.above)
           (λ y among same. first y (same ∙ has) (asker y among))
 
-      not_command : (y : Request) → (nest.command_rank ≡ asked → ⊥) → rank_of_request y ≡ asked → y ≡ nest.command → ⊥
-      not_command y other h e = other (worked.command_is ∙ ap rank_of_request (sym e) ∙ h)
+      not_command : (y : Request) → (rank_of_request nest.command ≡ asked → ⊥) → rank_of_request y ≡ asked
+          → y ≡ nest.command → ⊥
+      not_command y other h e = other (ap rank_of_request (sym e) ∙ h)
 
-      pub command_hit : OfKind is_command nest.command → OfKind is_wait nest.wait → nest.command_rank ≡ asked
+      pub command_hit : OfKind is_command nest.command → OfKind is_wait nest.wait → rank_of_request nest.command ≡ asked
           → near ≡ nest.command
-      command_hit commands waits same = hit nest.command (candidate nest.command (inl refl)) has first
+      command_hit commands waits has = hit nest.command (candidate nest.command (inl refl)) has first
         where
-          has : rank_of_request nest.command ≡ asked
-          has = sym worked.command_is ∙ same
-
           other : (y : Request) → is_command y.code ≡ false → rank_of_request y ≡ asked → ⊥
           other y kind h = other_rank is_command nest.command y commands kind (rw has some) (h ∙ sym has)
 
@@ -140,13 +134,10 @@ module _ (nest : Nest) where
           first y h (inr (inl (c, l, e))) = absurd (other y (rw e (no_command nest.mask c (get_or sections c 0))) h)
           first y h (inr (inr e)) = absurd (other y (rw e (wait_no_command nest.wait waits)) h)
 
-      pub wait_hit : OfKind is_wait nest.wait → (nest.command_rank ≡ asked → ⊥) → nest.wait_rank ≡ asked
-          → near ≡ nest.wait
-      wait_hit waits passed same = hit nest.wait (candidate nest.wait (inr (inr refl))) has first
+      pub wait_hit : OfKind is_wait nest.wait → (rank_of_request nest.command ≡ asked → ⊥)
+          → rank_of_request nest.wait ≡ asked → near ≡ nest.wait
+      wait_hit waits passed has = hit nest.wait (candidate nest.wait (inr (inr refl))) has first
         where
-          has : rank_of_request nest.wait ≡ asked
-          has = sym worked.wait_is ∙ same
-
           first : (y : Request) → rank_of_request y ≡ asked → Asker y → (y ≡ nest.wait) ⊎ (order nest.wait y ≡ true)
           first y h (inl e) = absurd (not_command y passed h e)
           first y h (inr (inl (c, l, e))) =
@@ -156,12 +147,12 @@ module _ (nest : Nest) where
 
       module _ (seen : ℕ → Type 0) (passed : Passed asked seen) where
         not_wait : (y : Request) → rank_of_request y ≡ asked → y ≡ nest.wait → ⊥
-        not_wait y h e = passed.wait_other (worked.wait_is ∙ ap rank_of_request (sym e) ∙ h)
+        not_wait y h e = passed.wait_other (ap rank_of_request (sym e) ∙ h)
 
         -- a section of the asked rank is none of those whose turn was seen
         not_seen : (i : ℕ) → i < length sections → rank_of_request (asks_at i) ≡ asked → seen (turn nest.last (asks_at i)) → ⊥
         not_seen i l has h =
-            passed.turns_other (turn nest.last (asks_at i)) h (worked.ranked.rank_is i l (rw has some) ∙ has)
+            passed.turns_other (turn nest.last (asks_at i)) h (worked.rank_is i l (rw has some) ∙ has)
 
         -- a turn that has the asked rank is a section's
         module _ (at : ℕ) (same : get_or nest.ranks at 0 ≡ asked) where
@@ -169,13 +160,13 @@ module _ (nest : Nest) where
           c = section_at nest.last at
 
           pub hit_within : c < length sections
-          hit_within = (worked.ranked.section_is at (rw same some)).0
+          hit_within = (worked.section_is at (rw same some)).0
 
           has : rank_of_request (asks_at c) ≡ asked
-          has = (worked.ranked.section_is at (rw same some)).1.own_rank ∙ same
+          has = (worked.section_is at (rw same some)).1.own_rank ∙ same
 
           own : turn nest.last (asks_at c) ≡ at
-          own = (worked.ranked.section_is at (rw same some)).1.own_turn
+          own = (worked.section_is at (rw same some)).1.own_turn
 
           -- where the lower turns were seen, it comes before the others
           before_others : ((t : ℕ) → t < at → seen t) → (i : ℕ) → i < length sections → rank_of_request (asks_at i) ≡ asked
@@ -216,4 +207,4 @@ module _ (nest : Nest) where
             other y h (inr (inr e)) = not_wait y h e
             other y h (inr (inl (i, l, e))) =
                 let there : rank_of_request (asks_at i) ≡ asked = ap rank_of_request (sym e) ∙ h in
-                not_seen i l there (whole (turn nest.last (asks_at i)) (worked.ranked.looked_at i l (rw there some)))
+                not_seen i l there (whole (turn nest.last (asks_at i)) (worked.looked_at i l (rw there some)))

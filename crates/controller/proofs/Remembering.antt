@@ -16,7 +16,7 @@ use Rattle.controller.specs.Refusals.{refusal}
 use Rattle.controller.specs.Step.{moved, step}
 use Rattle.controller.specs.Run.{Input, step_by, leaves_held, holds, run}
 use Rattle.controller.specs.declared.Controller.{Controller}
-use Rattle.controller.specs.declared.Outcome.{Outcome}
+use Rattle.controller.specs.Step.{Stepped}
 use Rattle.controller.proofs.Apart.{held_cases}
 use Rattle.controller.proofs.Ranking.{command_ranked}
 use Rattle.controller.proofs.Inputs.{well_formed, acceptable_facts}
@@ -58,7 +58,7 @@ module _ (s : Controller) (i : Input) where
       go true e =
           (step_keeps s i.k1 i.k2 i.conditions i.command i.channel (answered e)).0.setting
       go false e =
-          ap (λ (o : Outcome). o.controller.hold)
+          ap (λ (o : Stepped). o.controller.hold)
           (step_refused s i.k1 i.k2 i.conditions i.command i.channel
           (eqb-false (refusal s i.conditions i.command i.channel) 0 e))
 
@@ -88,7 +88,7 @@ module _ (s : Controller) (i : Input) where
             → (step_by s i).controller.held ≡ s.held
         go true e = stays_held (answered e)
         go false e =
-            ap (λ (o : Outcome). o.controller.held)
+            ap (λ (o : Stepped). o.controller.held)
             (step_refused s i.k1 i.k2 i.conditions i.command i.channel
             (eqb-false (refusal s i.conditions i.command i.channel) 0 e))
 

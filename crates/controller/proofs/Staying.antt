@@ -22,7 +22,7 @@ use Rattle.controller.specs.Step.{protection, wait_of, moved}
 use Rattle.controller.specs.Run.{Input, step_by, conditions_in, candidates_in, accepted_in}
 use Rattle.controller.specs.Asking.{OfKind, asks}
 use Rattle.controller.specs.declared.Controller.{Controller}
-use Rattle.controller.specs.declared.Outcome.{Outcome}
+use Rattle.controller.specs.Step.{Stepped}
 use Rattle.controller.proofs.Apart.{none_rank, other_rank, wait_kind, no_command, no_wait, own_channel}
 use Rattle.controller.proofs.Candidates.{candidate_split, candidate_one}
 use Rattle.controller.proofs.Sections.{some_section, section_one}
@@ -148,10 +148,10 @@ module _ (s : Controller) (i : Input) (goes : (step_by s i).refusal ≡ 0) where
 
 -- a step sends what section c asks for, and so does the next one
 module _ (s : Controller) (i j : Input) (c : ℕ) where
-  abbrev before : Outcome
+  abbrev before : Stepped
   before = step_by s i
 
-  abbrev after : Outcome
+  abbrev after : Stepped
   after = step_by before.controller j
 
   abbrev asks_for : Request

@@ -6,6 +6,7 @@ use mathlib.Core.Logic.{◌↔◌, ◌⊎◌}
 use Prim.Native.Nat.{ℕ, ◌+◌, ◌<◌, ◌≤◌}
 use lib.Dec.{leb}
 use lib.ListN.{get_or}
+use Rattle.std.specs.Prelude.{Ok}
 use Rattle.basics.specs.First.{applies_at, FirstAt}
 use Rattle.basics.proofs.First.{first_exact, none_exact}
 use Rattle.basics.proofs.One.{OneAnswer, one_value, one_case}
@@ -23,7 +24,6 @@ use Rattle.controller.specs.Run.{Input, input_fits, step_by, conditions_in, cand
 use Rattle.controller.specs.Run.{not_refused, run}
 use Rattle.controller.specs.Sequences.{is_right, sequences}
 use Rattle.controller.specs.declared.Controller.{Controller}
-use Rattle.controller.specs.declared.Made.TheVariants as made
 use Rattle.controller.proofs.Candidates.{reverse_loses, none_loses, ends_lower, ends_ours}
 use Rattle.controller.proofs.Candidates.{local_one, local_above, local_only, local_single}
 use Rattle.controller.proofs.Inputs.{faults_counted}
@@ -82,7 +82,7 @@ fresh_unique : OneAnswer 0 fresh-kinds.ps fresh-kinds.r fresh-fn.Post
 fresh_unique κs args x y s t p q = one_case p q
 
 step_unique : OneAnswer 1 step-kinds.ps step-kinds.r step-fn.Post
-step_unique κs args x y s t p q = one_value p q
+step_unique κs args x y s t p q = one_case p q
 
 -- So it is for what is open to the judge alone: `asked`, `held`, `condition`, `wait_of`.
 shared_unique : OneAnswer 0 asked-kinds.ps asked-kinds.r asked-fn.Post
@@ -123,7 +123,7 @@ alarm_right : (s : Controller) (command c k1 k2 j1 j2 x : ℕ) (working : List �
 alarm_right = alarm_step
 
 -- A fresh record is acceptable: it meets none of refusal 3.
-fresh_accepted : (n : ℕ) (hold : Bool) (mask w : ℕ) (s : Controller) → making_case (making n hold mask w) ≡ made.Fresh s
+fresh_accepted : (n : ℕ) (hold : Bool) (mask w : ℕ) (s : Controller) → making_case (making n hold mask w) ≡ Ok s
     → acceptable s ≡ true
 fresh_accepted = made_acceptable
 
@@ -148,7 +148,7 @@ sent_right s k1 k2 conditions command c h =
     let k = (step_keeps s k1 k2 conditions command c h).1 in (k.pair_usable, k.line, k.recorded)
 
 -- So no step of a run is refused, from a fresh record and with inputs that meet none of refusals 4 to 7.
-run_complete : (n : ℕ) (hold : Bool) (mask w : ℕ) (s : Controller) → making_case (making n hold mask w) ≡ made.Fresh s
+run_complete : (n : ℕ) (hold : Bool) (mask w : ℕ) (s : Controller) → making_case (making n hold mask w) ≡ Ok s
     → (inputs : List Input) → every (input_fits n) inputs ≡ true → every not_refused (run s inputs) ≡ true
 run_complete = made_run_unrefused
 

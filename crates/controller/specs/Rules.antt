@@ -1,6 +1,6 @@
 -- The seven rules of one step (01, 'One step'; 02, c, d and g), in the paper's order. The ranks are those of the table of
 -- requests.
-use Rattle.std.specs.Prelude.{if◌then◌else◌, Bool, ◌&&◌, ◌||◌, List, [], ◌∷◌, ◌++◌, ℕ, suc, ◌+◌, ◌*◌, ltb, leb, eqb}
+use Rattle.std.specs.Prelude.{if◌then◌else◌, Bool, ◌&&◌, ◌||◌, List, [], ◌∷◌, ◌++◌, ℕ, suc, ◌+◌, ◌*◌, ◌≤◌, ltb, leb, eqb}
 use Rattle.pair.specs.Request.{lockout_code, forced_code, fail_high_code, fail_low_code, degrade_high_code, degrade_low_code}
 use Rattle.pair.specs.Request.{manual_code, wait_code, reverse_code, nothing_code, rank_of}
 use Rattle.pair.specs.Marks.{code_of, channel_of, bridged_of, usable, mark}
@@ -40,6 +40,10 @@ asked k1 = request (code_of k1) (channel_of k1)
 
 abbrev pub k1_of : Request → ℕ
 k1_of r = r.code * 16 + r.channel
+
+-- there is room for it in a K1
+abbrev pub FitsK1 : Request → Type 0
+FitsK1 r = (r.code ≤ 15) × (r.channel ≤ 15)
 
 abbrev pub rank_of_request : Request → ℕ
 rank_of_request r = rank_of r.code r.channel

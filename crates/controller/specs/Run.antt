@@ -7,7 +7,7 @@ use Rattle.controller.specs.Rules.{waiting, candidates}
 use Rattle.controller.specs.Refusals.{conditions_fit, channel_fits}
 use Rattle.controller.specs.Step.{protection, wait_of, acts_on, step}
 use Rattle.controller.specs.declared.Controller.{Controller}
-use Rattle.controller.specs.declared.Outcome.{Outcome}
+use Rattle.controller.specs.Step.{Stepped}
 
 -- what one step is handed
 pub record Input : Type 0 where
@@ -25,7 +25,7 @@ input_fits n i =
     && leb i.command 4
     && channel_fits n i.command i.channel
 
-abbrev pub step_by : Controller → Input → Outcome
+abbrev pub step_by : Controller → Input → Stepped
 step_by s i = step s i.k1 i.k2 i.conditions i.command i.channel
 
 -- the conditions that the step acts on, its candidates, and the request of the pair that it has accepted (02, c; rules 3
@@ -50,13 +50,13 @@ leaves_held prior i =
     not (is_clear i.command) && leb (rank_of_request (given i.command i.channel)) (rank_of_request prior)
 
 -- the answered record holds this command
-abbrev pub holds : ℕ → Outcome → Bool
+abbrev pub holds : ℕ → Stepped → Bool
 holds k1 o = eqb o.controller.held k1
 
-abbrev pub not_refused : Outcome → Bool
+abbrev pub not_refused : Stepped → Bool
 not_refused o = eqb o.refusal 0
 
 -- what the steps of a run answer
-abbrev pub run : Controller → List Input → List Outcome
+abbrev pub run : Controller → List Input → List Stepped
 run s [] = []
 run s (i ∷ rest) = step_by s i ∷ run (step_by s i).controller rest

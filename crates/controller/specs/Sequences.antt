@@ -4,21 +4,21 @@ use Rattle.std.specs.Prelude.{Bool, false, ◌&&◌, List, [], ◌∷◌, ℕ, e
 use Rattle.controller.specs.Settings.{fresh}
 use Rattle.controller.specs.Step.{step}
 use Rattle.controller.specs.declared.Controller.{Controller}
-use Rattle.controller.specs.declared.Outcome.{Outcome}
+use Rattle.controller.specs.Step.{Stepped}
 
 -- a value that the paper gives of an answer
 pub data Value : Type 0 where
   sends : ℕ → ℕ → Value
   selector mark fate : ℕ → Value
 
-abbrev pub has : Outcome → Value → Bool
+abbrev pub has : Stepped → Value → Bool
 has o (sends a b) = eqb o.k1 a && eqb o.k2 b
 has o (selector c) = eqb o.selector c
 has o (mark m) = eqb o.mark m
 has o (fate f) = eqb o.fate f
 
 -- the step is not refused, and has the values
-abbrev pub gives : Outcome → List Value → Bool
+abbrev pub gives : Stepped → List Value → Bool
 gives o [] = eqb o.refusal 0
 gives o (v ∷ rest) = has o v && gives o rest
 
@@ -41,58 +41,58 @@ failed12 = 0 ∷ 2 ∷ 2 ∷ []
 abbrev new : Controller
 new = fresh 2 false 0 3
 
-abbrev receives : Controller → ℕ → ℕ → List ℕ → Outcome
+abbrev receives : Controller → ℕ → ℕ → List ℕ → Stepped
 receives s k1 k2 conditions = step s k1 k2 conditions 0 0
 
-abbrev p1 : Outcome
+abbrev p1 : Stepped
 p1 = receives new 0x00 0x08 good
 
-abbrev p2 : Outcome
+abbrev p2 : Stepped
 p2 = receives new 0x00 0x08 degraded2
 
-abbrev p3 : Outcome
+abbrev p3 : Stepped
 p3 = receives p2.controller 0x22 0x28 degraded2
 
-abbrev p4 : Outcome
+abbrev p4 : Stepped
 p4 = receives new 0xA2 0x08 good
 
-abbrev p5 : Outcome
+abbrev p5 : Stepped
 p5 = receives p4.controller 0xA2 0x28 good
 
-abbrev p6 : Outcome
+abbrev p6 : Stepped
 p6 = receives p5.controller 0xA2 0x28 failed1
 
-abbrev p7 : Outcome
+abbrev p7 : Stepped
 p7 = receives p3.controller 0xC1 0x08 degraded2
 
 -- P8, and with the same received pair once, twice, three times more, P9
-abbrev p8 : Outcome
+abbrev p8 : Stepped
 p8 = receives p3.controller 0x22 0x28 good
 
-abbrev p9 : Outcome
+abbrev p9 : Stepped
 p9 = receives p8.controller 0x22 0x28 good
 
-abbrev p9' : Outcome
+abbrev p9' : Stepped
 p9' = receives p9.controller 0x22 0x28 good
 
-abbrev p9'' : Outcome
+abbrev p9'' : Stepped
 p9'' = receives p9'.controller 0x22 0x28 good
 
-abbrev p10 : Outcome
+abbrev p10 : Stepped
 p10 = step new 0x00 0x08 failed0 3 1
 
-abbrev p11 : Outcome
+abbrev p11 : Stepped
 p11 = receives new 0x00 0x08 failed12
 
 -- with mask 2
-abbrev p11' : Outcome
+abbrev p11' : Stepped
 p11' = receives (fresh 2 false 2 3) 0x00 0x08 failed12
 
-abbrev p12 : Outcome
+abbrev p12 : Stepped
 p12 = receives p2.controller 0x11 0x08 degraded2
 
 -- last sent C2, accepted 00 08
-abbrev p13 : Outcome
+abbrev p13 : Stepped
 p13 =
     receives (record { n = 2; hold = false; mask = 0; w = 3; k1 = 0x00; k2 = 0x08; sent = 0xC2; left = 0; held = 0x00 })
     0x00 0x08 failed12
@@ -100,7 +100,7 @@ p13 =
 -- a line of the table: a step, and every value that the paper gives of its answer
 infix 15 ◌answers◌
 pub data Line : Type 0 where
-  ◌answers◌ : Outcome → List Value → Line
+  ◌answers◌ : Stepped → List Value → Line
 
 abbrev pub is_right : Line → Bool
 is_right (o answers values) = gives o values

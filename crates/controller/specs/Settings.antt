@@ -1,10 +1,10 @@
 -- Settings, and the fresh record (01, 'Settings' and 'One step'; 02, g).
-use Rattle.std.specs.Prelude.{if◌then◌else◌, Bool, true, false, List, ℕ, ◌-◌, ◌/◌, ◌%◌, ◌^◌, eqb}
+use Rattle.std.specs.Prelude.{if◌then◌else◌, Bool, true, false, Result, Ok, Err, List, ℕ, ◌-◌, ◌/◌, ◌%◌, ◌^◌, eqb}
 use Rattle.basics.specs.First.{Check, first_of}
+use Rattle.basics.specs.Refusal.{refusal_number, refused_or}
 use Rattle.basics.specs.Settings.{settings_checks}
+use Rattle.basics.specs.declared.refusal.Refusal.{Refusal}
 use Rattle.controller.specs.declared.Controller.{Controller}
-use Rattle.controller.specs.declared.Made.{Made}
-use Rattle.controller.specs.declared.Made.TheVariants as made
 
 -- section c is of high priority by bit c-1 of the mask, section 0 by itself
 abbrev pub high : ℕ → ℕ → Bool
@@ -47,12 +47,12 @@ pub record Making : Type 0 where
 abbrev pub zeros : Controller
 zeros = record { n = 0; hold = false; mask = 0; w = 0; k1 = 0; k2 = 0; sent = 0; left = 0; held = 0 }
 
-abbrev pub making_told : Made → Making
-making_told (made.Fresh s) = record { refusal = 0; controller = s }
-making_told (made.Refused k) = record { refusal = k; controller = zeros }
+abbrev pub making_told : Result Controller Refusal → Making
+making_told (Ok s) = record { refusal = 0; controller = s }
+making_told (Err e) = record { refusal = refusal_number e; controller = zeros }
 
-abbrev pub making_case : Making → Made
-making_case m = if eqb m.refusal 0 then made.Fresh m.controller else made.Refused m.refusal
+abbrev pub making_case : Making → Result Controller Refusal
+making_case m = refused_or m.refusal m.controller
 
 unfoldable pub making : ℕ → Bool → ℕ → ℕ → Making
 making n hold mask w =

@@ -1,8 +1,9 @@
 -- One step (01, 'One step'; 02, c and g): the refusals, then the seven rules. Three things look at the setting hold: where
 -- the held command is read from, what is held afterwards, and the fate of a command that was held but not sent.
-use Rattle.std.specs.Prelude.{if◌then◌else◌, Bool, List, ◌∷◌, ℕ, eqb, get_or, drop}
+use Rattle.std.specs.Prelude.{if◌then◌else◌, Bool, Result, Ok, Err, List, ◌∷◌, ℕ, eqb, get_or, drop}
+use Rattle.basics.specs.Refusal.{refusal_number, refusal_with}
 use Rattle.pair.specs.Marks.{alarm}
-use Rattle.request.specs.Command.{fate}
+use Rattle.request.specs.Command.{fate, fate_number, fate_with}
 use Rattle.request.specs.Wait.{wait_now}
 use Rattle.request.specs.Bridge.{bridge, selector}
 use Rattle.request.specs.declared.Request.{Request}
@@ -13,9 +14,22 @@ use Rattle.controller.specs.Refusals.{refusal}
 use Rattle.controller.specs.declared.Controller.{Controller}
 use Rattle.controller.specs.declared.Accepted.{Accepted}
 use Rattle.controller.specs.declared.Outcome.{Outcome}
+use Rattle.controller.specs.declared.RefusedStep.{RefusedStep}
+
+-- what a step answers, in numbers: a refusal or 0, the record, the bytes that are sent, bridge and selector, the mark of what
+-- was received, and the fate of the command
+pub record Stepped : Type 0 where
+  pub refusal : ℕ
+  pub controller : Controller
+  pub k1 : ℕ
+  pub k2 : ℕ
+  pub bridge : ℕ
+  pub selector : ℕ
+  pub mark : ℕ
+  pub fate : ℕ
 
 -- refused: the number, and the record as it came
-abbrev pub refused_step : ℕ → Controller → Outcome
+abbrev pub refused_step : ℕ → Controller → Stepped
 refused_step k s =
     record { refusal = k; controller = s; k1 = 0; k2 = 0; bridge = 0; selector = 0; mark = 0; fate = 0 }
 
@@ -28,7 +42,7 @@ abbrev pub wait_of : Controller → Request → ℕ → ℕ
 wait_of s last command = wait_now (is_clear command) (enters_wait last) (is_wait last.code) s.w s.left
 
 -- what is answered once it is decided what is sent
-abbrev pub answering : Controller → Accepted → Request → ℕ → ℕ → ℕ → Outcome
+abbrev pub answering : Controller → Accepted → Request → ℕ → ℕ → ℕ → Stepped
 answering s far sent now held fate_of_command =
     record {
       refusal = 0;
@@ -53,7 +67,7 @@ answering s far sent now held fate_of_command =
     }
 
 -- a step that is not refused, rule by rule
-unfoldable pub moved : Controller → ℕ → ℕ → List ℕ → ℕ → ℕ → Outcome
+unfoldable pub moved : Controller → ℕ → ℕ → List ℕ → ℕ → ℕ → Stepped
 moved s k1 k2 conditions command c =
     let protect = protection conditions in
     let last = asked s.sent in
@@ -72,8 +86,43 @@ moved s k1 k2 conditions command c =
 abbrev pub acts_on : Bool → List ℕ → List ℕ
 acts_on alarmed conditions = if alarmed then 2 ∷ drop 1 conditions else conditions
 
-unfoldable pub step : Controller → ℕ → ℕ → List ℕ → ℕ → ℕ → Outcome
+unfoldable pub step : Controller → ℕ → ℕ → List ℕ → ℕ → ℕ → Stepped
 step s k1 k2 conditions command c =
     if eqb (refusal s conditions command c) 0 then
     moved s k1 k2 (acts_on (alarm s.n k1 k2) conditions) command c
     else refused_step (refusal s conditions command c) s
+
+-- the numbers of an answer, and the answer that they call for
+abbrev pub outcome_told : Outcome → Stepped
+outcome_told o =
+    record {
+      refusal = 0;
+      controller = o.controller;
+      k1 = o.k1;
+      k2 = o.k2;
+      bridge = o.bridge;
+      selector = o.selector;
+      mark = o.mark;
+      fate = fate_number o.fate;
+    }
+
+abbrev pub step_told : Result Outcome RefusedStep → Stepped
+step_told (Ok o) = outcome_told o
+step_told (Err r) = refused_step (refusal_number r.refusal) r.controller
+
+abbrev pub outcome_with : Stepped → Outcome
+outcome_with a =
+    record {
+      controller = a.controller;
+      k1 = a.k1;
+      k2 = a.k2;
+      bridge = a.bridge;
+      selector = a.selector;
+      mark = a.mark;
+      fate = fate_with a.fate;
+    }
+
+abbrev pub step_case : Stepped → Result Outcome RefusedStep
+step_case a =
+    if eqb a.refusal 0 then Ok (outcome_with a)
+    else Err record { refusal = refusal_with a.refusal; controller = a.controller }

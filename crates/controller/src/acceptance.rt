@@ -2,11 +2,10 @@
 ghost use Rattle.basics.specs.Settings.{sections_fit};
 ghost use Rattle.controller.specs.Rules.{accepted, accepting};
 ghost use Rattle.pair.specs.Coder.{decoding_told};
-ghost use Rattle.pair.specs.Request.{requests};
-ghost use Rattle.pair.specs.Table.{number_for};
 ghost use Rattle.std.specs.Prelude.{true, ◌≡◌};
 
 use crate::asked::asked;
+use crate::numbered::Received;
 use crate::{Accepted, Controller};
 use pair::{Decoded, decode_looked};
 use request::Request;
@@ -23,39 +22,36 @@ pub(crate) fn mark_in(d: Decoded) -> u8
     }
 }
 
-fn accepted(k1: u8, k2: u8, m: u8) -> Accepted
-    ensures { result ≡ accepted k1 k2 m }
+fn accepted(k1: u8, k2: u8, mark: u8) -> Accepted
+    ensures { result ≡ accepted k1 k2 mark }
 {
-    let request = asked(k1);
     Accepted {
         k1,
         k2,
-        request,
+        request: asked(k1),
         bridged: k2 / 16,
-        mark: m,
+        mark,
     }
 }
 
-// `received` is the number of the K1.
-pub(crate) fn accepting(s: Controller, failed: bool, received: u16, k1: u8, k2: u8) -> Accepted
-    requires { (sections_fit s.n ≡ true) × (received ≡ number_for requests k1) }
-    ensures { result ≡ accepting s failed k1 k2 }
+pub(crate) fn accepting(s: Controller, failed: bool, received: Received) -> Accepted
+    requires { sections_fit s.n ≡ true }
+    ensures { result ≡ accepting s failed received.k1 received.k2 }
 {
     if failed {
         return accepted(Controller::IDLE_K1, Controller::IDLE_K2, 0);
     }
-    let d = decode_looked(received, s.n, k1, k2);
+    let d = decode_looked(received.number, s.n, received.k1, received.k2);
     let Decoded::Usable(p) = d else {
         return accepted(s.k1, s.k2, mark_in(d));
     };
-    let request = Request {
-        code: p.code,
-        channel: p.channel,
-    };
     Accepted {
-        k1,
-        k2,
-        request,
+        k1: received.k1,
+        k2: received.k2,
+        request: Request {
+            code: p.code,
+            channel: p.channel,
+        },
         bridged: p.bridged,
         mark: 0,
     }

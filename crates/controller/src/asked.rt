@@ -1,5 +1,5 @@
 // What is asked for: requests, as a K1 has them.
-ghost use Rattle.controller.specs.Rules.{asked, rank_of_request};
+ghost use Rattle.controller.specs.Rules.{asked, FitsK1, k1_of, rank_of_request};
 ghost use Rattle.std.specs.Prelude.{◌≡◌};
 
 use crate::codes::NOTHING;
@@ -13,6 +13,13 @@ pub fn asked(k1: u8) -> Request
         code: k1 / 16,
         channel: k1 % 16,
     }
+}
+
+pub(crate) fn k1_of(r: Request) -> u8
+    requires { FitsK1 r }
+    ensures { result ≡ k1_of r }
+{
+    r.code * 16 + r.channel
 }
 
 pub(crate) fn rank_of(r: Request) -> u8

@@ -7,24 +7,29 @@ pub mod asked;
 pub mod codes;
 pub mod command;
 mod local;
+mod numbered;
+mod ranked;
 mod refusal;
 pub mod section;
 pub mod wait;
 
 ghost use Rattle.basics.specs.Answer.{Answers};
 ghost use Rattle.controller.specs.Settings.{making_told, making_case, making};
-ghost use Rattle.controller.specs.Step.{step};
+ghost use Rattle.controller.specs.Step.{step_told, step_case, step};
 ghost use Rattle.std.specs.Prelude.{◌≡◌};
 
-use crate::answer::{moved, refused_step};
+use crate::answer::moved;
+use crate::numbered::{Numbered, Received};
 use crate::refusal::refusal_of;
-use basics::settings::settings_refusal;
+use basics::refusal::Refusal;
+use basics::settings::{Settings, settings_refusal};
 use pair::table::numbers;
 use request::Request;
+use request::command::Fate;
 
 // The settings n, hold, mask and W; the accepted pair; the K1 last sent; the steps of wait left; the held command as a K1,
 // where the setting hold keeps it.
-#[derive(Clone, Copy)]
+#[derive(Clone, Copy, Debug, PartialEq, Eq)]
 pub struct Controller {
     pub n: u8,
     pub hold: bool,
@@ -46,55 +51,55 @@ impl Controller {
     // No command is held: the K1 of NR.
     pub const NONE_HELD: u8 = 0x00;
 
-    pub fn fresh(n: u8, hold: bool, mask: u16, w: u16) -> Made
-        ensures { Answers making_told making_case (making n hold mask w) result }
+    pub fn fresh(settings: Settings) -> Result<Controller, Refusal>
+        ensures { Answers making_told making_case (making settings.n settings.hold settings.mask settings.w) result }
     {
-        let refusal = settings_refusal(n, mask, 1, 2);
-        if refusal == 0 {
-            let k1 = Controller::IDLE_K1;
-            let k2 = Controller::IDLE_K2;
-            Made::Fresh(Controller {
-                n,
-                hold,
-                mask,
-                w,
-                k1,
-                k2,
-                sent: k1,
-                left: 0,
-                held: Controller::NONE_HELD,
-            })
-        } else {
-            Made::Refused(refusal)
-        }
+        let Settings { n, hold, mask, w } = settings;
+        settings_refusal(n, mask, Refusal::Sections, Refusal::Mask)?;
+        Ok(Controller {
+            n,
+            hold,
+            mask,
+            w,
+            k1: Controller::IDLE_K1,
+            k2: Controller::IDLE_K2,
+            sent: Controller::IDLE_K1,
+            left: 0,
+            held: Controller::NONE_HELD,
+        })
     }
 
-    pub fn step(self, k1: u8, k2: u8, conditions: &[u8], command: u8, channel: u8) -> Outcome
-        ensures { result ≡ step self k1 k2 conditions.now command channel }
+    pub fn step(
+        self,
+        k1: u8,
+        k2: u8,
+        conditions: &[u8],
+        command: u8,
+        channel: u8,
+    ) -> Result<Outcome, RefusedStep>
+        ensures { Answers step_told step_case (step self k1 k2 conditions.now command channel) result }
     {
         // One look for each of the K1 values of a step.
         let table = numbers();
-        let k1_accepted = self.k1;
-        let k1_sent = self.sent;
-        let k1_held = self.held;
-        let accepted = table[k1_accepted as usize];
-        let sent = table[k1_sent as usize];
-        let held = table[k1_held as usize];
-        let received = table[k1 as usize];
-        let refusal = refusal_of(self, accepted, sent, held, conditions, command, channel);
-        if refusal == 0 {
-            moved(self, received, k1, k2, conditions, command, channel)
-        } else {
-            refused_step(refusal, self)
+        let numbered = Numbered {
+            controller: self,
+            accepted: table[usize::from(self.k1)],
+            sent: table[usize::from(self.sent)],
+            held: table[usize::from(self.held)],
+        };
+        let received = Received {
+            k1,
+            k2,
+            number: table[usize::from(k1)],
+        };
+        match refusal_of(numbered, conditions, command, channel) {
+            Ok(()) => Ok(moved(self, received, conditions, command, channel)),
+            Err(refusal) => Err(RefusedStep {
+                refusal,
+                controller: self,
+            }),
         }
     }
-}
-
-// A fresh record, or a refusal.
-#[derive(Clone, Copy)]
-pub enum Made {
-    Fresh(Controller),
-    Refused(u8),
 }
 
 // The pair that a step has accepted: its bytes, what it asks for, the channel it bridges; and the mark of the received.
@@ -107,15 +112,21 @@ pub(crate) struct Accepted {
     pub mark: u8,
 }
 
-// What a step answers.
-#[derive(Clone, Copy)]
+// What a step answers that is not refused.
+#[derive(Clone, Copy, Debug, PartialEq, Eq)]
 pub struct Outcome {
-    pub refusal: u8,
     pub controller: Controller,
     pub k1: u8,
     pub k2: u8,
     pub bridge: u8,
     pub selector: u8,
     pub mark: u8,
-    pub fate: u8,
+    pub fate: Fate,
+}
+
+// A refused step: it hands the record back as it came.
+#[derive(Clone, Copy, Debug, PartialEq, Eq)]
+pub struct RefusedStep {
+    pub refusal: Refusal,
+    pub controller: Controller,
 }

@@ -1,12 +1,13 @@
 // The local request and the decision (01, 'One step', rules 3 and 4).
-ghost use Rattle.std.specs.Prelude.{◌+◌, ◌≤◌, ◌<◌, length, drop, replicate, ◌∷◌, ◌⊎◌, ◌≡◌};
+ghost use Rattle.std.specs.Prelude.{◌+◌, ◌≤◌, ◌<◌, length, drop, ◌∷◌, ◌≡◌};
 ghost use Rattle.controller.specs.Asking.{OfKind, asks, section_at, Laid, Ranked};
-ghost use Rattle.controller.specs.Rules.{rank_of_request, is_command, is_wait, local_request, decided};
+ghost use Rattle.controller.specs.Rules.{is_command, is_wait, local_request, decided};
 ghost use Rattle.pair.specs.Request.{rank_of};
 ghost use Rattle.request.specs.Order.{turn, by_rank};
 
 use crate::asked::rank_of;
 use crate::codes::{NO_REQUEST, REVERSE};
+use crate::ranked::RankedRequest;
 use crate::section::condition;
 use pair::request::rank;
 use request::{Request, better, turn};
@@ -23,48 +24,43 @@ fn section_asks(mask: u16, protection: u8, conditions: &[u8], c: u8) -> Request
     }
 }
 
-// The later of two places.
-fn later(a: usize, b: usize) -> usize
-    ensures { (a ≤ result) × (b ≤ result) × ((result ≡ a) ⊎ (result ≡ b)) }
-{
-    if a < b { b } else { a }
+// The rank of what each section asks for, at its turn; and the place behind the last of them.
+#[derive(Drop)]
+struct Turns {
+    ranks: [u8; 16],
+    past_last: usize,
 }
 
-// The rank of a request, at its turn; and the place behind the last one that has a rank.
-fn lay(x: Request, last: Request, ranks: &mut [u8], place: usize) -> usize
-    requires { (turn last x + 1 ≤ 16) × (length ranks.old ≡ 16) }
-    ensures { Laid last x ranks.old place ranks.new result }
-{
-    let rank = rank_of(x);
-    if 0 < rank {
-        let at = turn(last, x);
-        ranks[at] = rank;
-        later(place, at + 1)
-    } else {
-        place
+impl Turns {
+    // Worked out once a step.
+    fn of_sections(mask: u16, protection: u8, conditions: &[u8], last: Request) -> Turns
+        requires { (1 ≤ length conditions.now) × (length conditions.now ≤ 15) }
+        ensures { Ranked mask (protection ∷ drop 1 conditions.now) last result.ranks (length conditions.now) result.past_last }
+    {
+        let mut turns = Turns {
+            ranks: [0; 16],
+            past_last: 0,
+        };
+        // Section 0 by itself: its condition is handed in apart, and the loop need not ask at each section which it is.
+        turns.lay(condition(mask, 0, protection), last);
+        for c in 1..conditions.len() {
+            turns.lay(condition(mask, c as u8, conditions[c]), last);
+        }
+        turns
     }
-}
 
-// The rank of what each section asks for, worked out once a step, at its turn; and the place behind the last of them.
-fn section_ranks(
-    mask: u16,
-    protection: u8,
-    conditions: &[u8],
-    last: Request,
-    ranks: &mut [u8],
-) -> usize
-    requires { (1 ≤ length conditions.now) × (length conditions.now ≤ 15) × (ranks.old ≡ replicate 16 0) }
-    ensures { Ranked mask (protection ∷ drop 1 conditions.now) last ranks.new (length conditions.now) result }
-{
-    // Section 0 by itself: its condition is handed in apart, and the loop need not ask at each section which it is.
-    let mut past_last = lay(condition(mask, 0, protection), last, ranks, 0);
-    let mut c: u8 = 1;
-    while (c as usize) < conditions.len() {
-        let asked = condition(mask, c, conditions[c as usize]);
-        past_last = lay(asked, last, ranks, past_last);
-        c += 1;
+    // Where a request has a rank, it goes to its turn.
+    fn lay(&mut self, x: Request, last: Request)
+        requires { turn last x + 1 ≤ 16 }
+        ensures { Laid last x self.old.ranks self.old.past_last self.new.ranks self.new.past_last }
+    {
+        let rank = rank_of(x);
+        if 0 < rank {
+            let at = turn(last, x);
+            self.ranks[at] = rank;
+            self.past_last = self.past_last.max(at + 1);
+        }
     }
-    past_last
 }
 
 // The section whose turn it is.
@@ -73,50 +69,45 @@ fn section_at(last: Request, at: usize) -> u8
     ensures { result ≡ section_at last at }
 {
     if at == 1 {
-        return last.channel;
+        last.channel
+    } else {
+        at.saturating_sub(1) as u8
     }
-    if 0 < at { (at - 1) as u8 } else { 0 }
 }
 
 // The higher rank, then the turn (01, rule 3; 02, d): section 0, the section whose request was last sent, the others from
 // 1 up. So the first hit is the answer. Command and wait may come before the sections: no two of the three kinds share a
-// rank, since each rank above 0 is one code's alone. `known` is the rank of the command.
+// rank, since each rank above 0 is one code's alone.
 pub(crate) fn local_request(
     mask: u16,
     last: Request,
     protection: u8,
     conditions: &[u8],
-    command: Request,
+    command: RankedRequest,
     wait: Request,
-    known: u8,
 ) -> Request
-    requires { (1 ≤ length conditions.now) × (length conditions.now ≤ 15) × OfKind is_command command × OfKind is_wait wait × (known ≡ rank_of_request command) }
-    ensures { result ≡ local_request mask last protection (drop 1 conditions.now) command wait }
+    requires { (1 ≤ length conditions.now) × (length conditions.now ≤ 15) × OfKind is_command command.request × OfKind is_wait wait }
+    ensures { result ≡ local_request mask last protection (drop 1 conditions.now) command.request wait }
 {
-    let mut ranks = [0u8; 16];
-    let past_last = section_ranks(mask, protection, conditions, last, &mut ranks);
-    let wait_rank = rank_of(wait);
+    let turns = Turns::of_sections(mask, protection, conditions, last);
+    let wait = RankedRequest::of(wait);
     let mut found = NO_REQUEST;
-    let mut rank: u8 = 10;
-    'ranks: while 0 < rank {
-        if known == rank {
-            found = command;
+    'ranks: for rank in (1..=10).rev() {
+        if command.rank == rank {
+            found = command.request;
             break;
         }
-        if wait_rank == rank {
-            found = wait;
+        if wait.rank == rank {
+            found = wait.request;
             break;
         }
         // Turn by turn; from `past_last` on nobody asks for anything.
-        let mut at: usize = 0;
-        while at < past_last {
-            if ranks[at] == rank {
+        for at in 0..turns.past_last {
+            if turns.ranks[at] == rank {
                 found = section_asks(mask, protection, conditions, section_at(last, at));
                 break 'ranks;
             }
-            at += 1;
         }
-        rank -= 1;
     }
     found
 }

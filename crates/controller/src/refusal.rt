@@ -1,16 +1,18 @@
 // Refusals 1 to 7 (01, 'Numbered refusals'; 02, g).
+ghost use Rattle.basics.specs.Refusal.{refusal_told};
 ghost use Rattle.basics.specs.Settings.{sections_fit};
 ghost use Rattle.controller.specs.Refusals.{other_priority, against_mask, wait_fits, held_fits, acceptable};
 ghost use Rattle.controller.specs.Refusals.{conditions_fit, channel_fits, refusal};
-ghost use Rattle.pair.specs.Request.{requests};
-ghost use Rattle.pair.specs.Table.{number_for};
 ghost use Rattle.std.specs.Prelude.{true, ◌≡◌};
 
 use crate::Controller;
+use crate::asked::asked;
 use crate::codes::{DEGRADE_HIGH, DEGRADE_LOW, FAIL_HIGH, FAIL_LOW};
 use crate::command::is_command;
+use crate::numbered::Numbered;
 use crate::section::high;
 use crate::wait::is_wait;
+use basics::refusal::Refusal;
 use basics::settings::settings_refusal;
 use pair::mark::second_usable;
 use pair::table::usable_in;
@@ -19,9 +21,9 @@ fn other_priority(high: bool, code: u8) -> bool
     ensures { result ≡ other_priority high code }
 {
     if high {
-        (code == FAIL_LOW) | (code == DEGRADE_LOW)
+        matches!(code, FAIL_LOW | DEGRADE_LOW)
     } else {
-        (code == FAIL_HIGH) | (code == DEGRADE_HIGH)
+        matches!(code, FAIL_HIGH | DEGRADE_HIGH)
     }
 }
 
@@ -41,42 +43,36 @@ fn wait_fits(code: u8, w: u16, left: u16) -> bool
     }
 }
 
-// `number` is that of the held command, as a K1.
-fn held_fits(n: u8, hold: bool, held: u8, number: u16) -> bool
-    requires { (sections_fit n ≡ true) × (number ≡ number_for requests held) }
-    ensures { result ≡ held_fits n hold held }
+#[tactic(auto, using(pair::proofs::Looking::usable_looked))]
+fn held_fits(s: Numbered) -> bool
+    requires { sections_fit s.controller.n ≡ true }
+    ensures { result ≡ held_fits s.controller.n s.controller.hold s.controller.held }
 {
+    let held = s.controller.held;
     if held == Controller::NONE_HELD {
         return true;
     }
-    hold & is_command(held / 16) & usable_in(number, n)
+    s.controller.hold & is_command(asked(held).code) & usable_in(s.held, s.controller.n)
 }
 
-// `accepted`, `sent` and `held` are the numbers of the accepted K1, of the one last sent, and of the held command.
-fn acceptable(s: Controller, accepted: u16, sent: u16, held: u16) -> bool
-    requires { (sections_fit s.n ≡ true) × (accepted ≡ number_for requests s.k1) × (sent ≡ number_for requests s.sent) × (held ≡ number_for requests s.held) }
-    ensures { result ≡ acceptable s }
+#[tactic(auto, using(pair::proofs::Looking::usable_looked, pair::proofs::Coding::usable_test), unfolding(crate::specs::Refusals::acceptable))]
+fn acceptable(numbered: Numbered) -> bool
+    requires { sections_fit numbered.controller.n ≡ true }
+    ensures { result ≡ acceptable numbered.controller }
 {
-    let code = s.sent / 16;
-    let channel = s.sent % 16;
-    let pair_usable = usable_in(accepted, s.n) & second_usable(s.n, s.k2);
-    let in_table = usable_in(sent, s.n);
-    let against = against_mask(s.mask, code, channel);
-    let wait_good = wait_fits(code, s.w, s.left);
-    (pair_usable & in_table & !against & wait_good) && held_fits(s.n, s.hold, s.held, held)
+    let s = numbered.controller;
+    let last = asked(s.sent);
+    let pair_usable = usable_in(numbered.accepted, s.n) & second_usable(s.n, s.k2);
+    let in_table = usable_in(numbered.sent, s.n);
+    let against = against_mask(s.mask, last.code, last.channel);
+    let wait_good = wait_fits(last.code, s.w, s.left);
+    (pair_usable & in_table & !against & wait_good) && held_fits(numbered)
 }
 
 fn conditions_fit(conditions: &[u8]) -> bool
     ensures { result ≡ conditions_fit conditions.now }
 {
-    let mut i = 0;
-    while i < conditions.len() {
-        if 2 < conditions[i] {
-            return false;
-        }
-        i += 1;
-    }
-    true
+    conditions.iter().all(|c| *c <= 2)
 }
 
 fn channel_fits(n: u8, command: u8, c: u8) -> bool
@@ -89,40 +85,36 @@ fn channel_fits(n: u8, command: u8, c: u8) -> bool
     }
 }
 
+#[tactic(auto, unfolding(crate::specs::Refusals::refusal))]
 pub(crate) fn refusal_of(
-    s: Controller,
-    accepted: u16,
-    sent: u16,
-    held: u16,
+    numbered: Numbered,
     conditions: &[u8],
     command: u8,
     c: u8,
-) -> u8
-    requires { (accepted ≡ number_for requests s.k1) × (sent ≡ number_for requests s.sent) × (held ≡ number_for requests s.held) }
-    ensures { result ≡ refusal s conditions.now command c }
+) -> Result<(), Refusal>
+    ensures { refusal_told result ≡ refusal numbered.controller conditions.now command c }
 {
-    let n = s.n;
-    let settings = settings_refusal(n, s.mask, 1, 2);
-    if settings != 0 {
-        return settings;
+    let n = numbered.controller.n;
+    settings_refusal(
+        n,
+        numbered.controller.mask,
+        Refusal::Sections,
+        Refusal::Mask,
+    )?;
+    if !acceptable(numbered) {
+        return Err(Refusal::Record);
     }
-    let record_good = acceptable(s, accepted, sent, held);
-    if !record_good {
-        return 3;
+    if conditions.len() != usize::from(n) + 1 {
+        return Err(Refusal::ConditionCount);
     }
-    if conditions.len() != n as usize + 1 {
-        return 4;
-    }
-    let conditions_good = conditions_fit(conditions);
-    if !conditions_good {
-        return 5;
+    if !conditions_fit(conditions) {
+        return Err(Refusal::Condition);
     }
     if 4 < command {
-        return 6;
+        return Err(Refusal::Command);
     }
-    let channel_good = channel_fits(n, command, c);
-    if !channel_good {
-        return 7;
+    if !channel_fits(n, command, c) {
+        return Err(Refusal::CommandChannel);
     }
-    0
+    Ok(())
 }

@@ -1,5 +1,5 @@
 // What the condition of a section asks for (01, 'Settings' and rule 3).
-ghost use Rattle.controller.specs.Rules.{fail_code, degrade_code, condition};
+ghost use Rattle.controller.specs.Rules.{condition};
 ghost use Rattle.controller.specs.Settings.{high};
 ghost use Rattle.controller.specs.Step.{protection, acts_on};
 ghost use Rattle.std.specs.Prelude.{[], ◌∷◌, ◌≡◌};
@@ -11,42 +11,22 @@ use request::Request;
 pub(crate) fn high(mask: u16, c: u8) -> bool
     ensures { result ≡ high mask c }
 {
-    if c <= 16 {
-        ((2 * (mask as u32) + 1) >> c) % 2 == 1
-    } else {
-        false
-    }
-}
-
-fn fail_code(high: bool) -> u8
-    ensures { result ≡ fail_code high }
-{
-    if high { FAIL_HIGH } else { FAIL_LOW }
-}
-
-fn degrade_code(high: bool) -> u8
-    ensures { result ≡ degrade_code high }
-{
-    if high { DEGRADE_HIGH } else { DEGRADE_LOW }
+    c <= 16 && ((2 * u32::from(mask) + 1) >> c) % 2 == 1
 }
 
 // Whether it is of high priority is asked for a section that is bad, since most are good.
 pub fn condition(mask: u16, c: u8, x: u8) -> Request
     ensures { result ≡ condition mask c x }
 {
-    if x == 2 {
-        return Request {
-            code: fail_code(high(mask, c)),
-            channel: c,
-        };
+    let (high_code, low_code) = match x {
+        2 => (FAIL_HIGH, FAIL_LOW),
+        1 => (DEGRADE_HIGH, DEGRADE_LOW),
+        _ => return NO_REQUEST,
+    };
+    Request {
+        code: if high(mask, c) { high_code } else { low_code },
+        channel: c,
     }
-    if x == 1 {
-        return Request {
-            code: degrade_code(high(mask, c)),
-            channel: c,
-        };
-    }
-    NO_REQUEST
 }
 
 // The condition of section 0 that a step acts on: failed, where an alarm is received (02, c).

@@ -10,7 +10,7 @@ use request::{Request, wait_now};
 fn is_fail_or_degrade(code: u8) -> bool
     ensures { result ≡ is_fail_or_degrade code }
 {
-    (code == FAIL_HIGH) | (code == FAIL_LOW) | (code == DEGRADE_HIGH) | (code == DEGRADE_LOW)
+    matches!(code, FAIL_HIGH | FAIL_LOW | DEGRADE_HIGH | DEGRADE_LOW)
 }
 
 pub(crate) fn is_wait(code: u8) -> bool

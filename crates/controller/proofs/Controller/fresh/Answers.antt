@@ -1,19 +1,15 @@
-use Rattle.std.proofs.Common.{eq-eqb}
-use borrow.Author.Tests.{ne_eqb}
-use Rattle.controller.specs.Settings.{making}
-use Rattle.controller.proofs.Making.{made_by}
+use Rattle.std.proofs.Common.{Ok, Err}
+use Rattle.std.proofs.lemmas.Result.{err_from_is_err_and}
+use Rattle.controller.proofs.Making.{making_back, told_answers, told_making}
 use Rattle.controller.proofs.Controller.fresh.Goals as goal
 
-pub returns-then-refusal-eq0 : goal.returns-then-refusal-eq0
-unfolding making
-returns-then-refusal-eq0 c =
-    let a = c.args in
-    let answer = c.settings_refusal-refusal in
-    made_by a.n a.hold a.mask a.w (simp (← answer.ensures, eq-eqb answer.result 0 c.if-refusal-eq0.true))
+pub returns : goal.returns
+returns c =
+    let a = c.args.settings in
+    told_answers (making_back _) (told_making a.n a.hold a.mask a.w (Ok c.in_ok-settings_refusal.field-0) c.in_ok-settings_refusal.ensures)
 
-pub returns-else-refusal-eq0 : goal.returns-else-refusal-eq0
-unfolding making
-returns-else-refusal-eq0 c =
-    let a = c.args in
-    let answer = c.settings_refusal-refusal in
-    made_by a.n a.hold a.mask a.w (simp (← answer.ensures, ne_eqb answer.result 0 c.if-refusal-eq0.false))
+pub returns-in_err-settings_refusal : goal.returns-in_err-settings_refusal
+returns-in_err-settings_refusal c =
+    let a = c.args.settings in
+    let p = err_from_is_err_and c.from_residual.result c.from_residual.ensures.1 in
+    rw (p.1, p.2) (told_answers (making_back _) (told_making a.n a.hold a.mask a.w (Err c.in_err-settings_refusal.field-0.0) c.in_err-settings_refusal.ensures))

@@ -16,23 +16,23 @@ pub returns-in_default : goal.returns-in_default
 unfolding accepting
 returns-in_default c =
     let a = c.args in
-    let fits = c.requires.0 in
-    let d : Answers decoding_told decoding_case (decoding a.s.n a.k1 a.k2) c.decode_looked-d.result =
-    rw (← decoding_looked_lem a.s.n a.k1 a.k2, ← c.requires.1) c.decode_looked-d.ensures in
+    let fits = c.requires in
+    let d : Answers decoding_told decoding_case (decoding a.s.n a.received.k1 a.received.k2) c.decode_looked-d.result =
+    rw (← decoding_looked_lem a.s.n a.received.k1 a.received.k2, ← a.received.number_is) c.decode_looked-d.ensures in
     rw (
       c.accepted-in_default.ensures,
       c.mark_in.ensures,
       d.numbers,
-      (fit_found a.s.n a.k1 a.k2 fits).0,
+      (fit_found a.s.n a.received.k1 a.received.k2 fits).0,
       c.if-failed.false,
-      other_unusable a.s.n a.k1 a.k2 c.decode_looked-d.result fits d.decided c.in_default.not-Usable,
+      other_unusable a.s.n a.received.k1 a.received.k2 c.decode_looked-d.result fits d.decided c.in_default.not-Usable,
     )
 
 pub returns : goal.returns
 unfolding accepting
 returns c =
     let a = c.args in
-    let d : Answers decoding_told decoding_case (decoding a.s.n a.k1 a.k2) c.decode_looked-d.result =
-    rw (← decoding_looked_lem a.s.n a.k1 a.k2, ← c.requires.1) c.decode_looked-d.ensures in
-    let facts = usable_facts a.s.n a.k1 a.k2 c.in-Usable.p (sym d.decided ∙ c.in-Usable.is) in
-    rw (facts.1, c.if-failed.false, parts_usable a.s.n a.k1 a.k2 facts.0)
+    let d : Answers decoding_told decoding_case (decoding a.s.n a.received.k1 a.received.k2) c.decode_looked-d.result =
+    rw (← decoding_looked_lem a.s.n a.received.k1 a.received.k2, ← a.received.number_is) c.decode_looked-d.ensures in
+    let facts = usable_facts a.s.n a.received.k1 a.received.k2 c.in-Usable.p (sym d.decided ∙ c.in-Usable.is) in
+    rw (facts.1, c.if-failed.false, parts_usable a.s.n a.received.k1 a.received.k2 facts.0)

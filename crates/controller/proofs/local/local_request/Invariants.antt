@@ -1,12 +1,13 @@
 -- No candidate has a rank above the asked one, and nobody whose turn came before has it.
-use Rattle.std.proofs.Common.{◌≡◌, ℕ, ◌<◌, ◌-◌, List, drop}
+use Rattle.std.proofs.Common.{◌≡◌, ℕ, ◌<◌, List, drop}
 use Rattle.request.specs.declared.Request.{Request}
 use Rattle.controller.specs.Rules.{no_request}
+use Rattle.controller.specs.declared.local.Turns.{Turns}
 use Rattle.controller.proofs.Nest.{Nest, Worked, Asked, Passed}
 use Rattle.controller.proofs.local.local_request.Given as goal
 
-abbrev pub nest_of : ℕ → Request → ℕ → List ℕ → Request → Request → List ℕ → ℕ → ℕ → ℕ → Nest
-nest_of mask last protection conditions command wait ranks past_last command_rank wait_rank =
+abbrev pub nest_of : ℕ → Request → ℕ → List ℕ → Request → Request → Turns → Nest
+nest_of mask last protection conditions command wait turns =
     record {
       mask = mask;
       last = last;
@@ -14,28 +15,17 @@ nest_of mask last protection conditions command wait ranks past_last command_ran
       working = drop 1 conditions;
       command = command;
       wait = wait;
-      ranks = ranks;
-      past_last = past_last;
-      command_rank = command_rank;
-      wait_rank = wait_rank;
+      ranks = turns.ranks;
+      past_last = turns.past_last;
     }
 
 abbrev pub invariant-ranks : goal.invariant-ranks
 invariant-ranks l =
-    let nest =
-    nest_of l.mask l.fn.last l.protection l.conditions l.fn.command l.fn.wait l.ranks l.past_last l.known l.wait_rank in
+    let nest = nest_of l.mask l.last l.protection l.conditions l.command.request l.fn.wait l.turns in
     Worked nest × Asked nest l.rank × (l.found ≡ no_request)
-
-abbrev pub decreases-ranks : goal.decreases-ranks
-decreases-ranks l = l.rank
 
 abbrev pub invariant-loop-at : goal.invariant-loop-at
 invariant-loop-at l =
-    Passed
-    (nest_of l.mask l.fn.last l.protection l.conditions l.fn.command l.fn.wait l.ranks l.past_last l.known l.wait_rank)
-    l.rank
+    Passed (nest_of l.mask l.last l.protection l.conditions l.command.request l.fn.wait l.turns) l.rank
     (λ (t : ℕ). t < l.at)
     × (l.found ≡ l.initial.found)
-
-abbrev pub decreases-loop-at : goal.decreases-loop-at
-decreases-loop-at l = l.past_last - l.at

@@ -1,14 +1,19 @@
-use Rattle.std.proofs.Common.{sym, ◌∙◌}
-use Rattle.controller.proofs.Conditions.{one_fits, one_above, none_left}
+use Rattle.std.proofs.Common.{rules, ◌≡◌, refl, ap, ◌∙◌, Bool, ◌&&◌, ℕ, List, [], ◌∷◌, leb}
+use Rattle.std.specs.List.{list_all}
+use Rattle.std.proofs.lemmas.Iterator.{YieldsList-from_slice}
+use Rattle.std.proofs.lemmas.Iterator.Search.{all_from_yields_List}
+use borrow.Author.Tests.{tests}
+use Rattle.controller.specs.Refusals.{conditions_fit}
 use Rattle.controller.proofs.refusal.conditions_fit.Goals as goal
 
-pub returns-then-conditions-i-gt2 : goal.returns-then-conditions-i-gt2
-returns-then-conditions-i-gt2 c =
-    sym (one_above c.args.conditions.now c.loop-i.i c.loop-i-test.true c.if-conditions-i-gt2.true) ∙ c.loop-i.invariant
-
-pub loop-i-preserved : goal.loop-i-preserved
-loop-i-preserved c =
-    one_fits c.args.conditions.now c.loop-i.i c.loop-i-test.true c.if-conditions-i-gt2.false ∙ c.loop-i.invariant
+all_fit : (conditions : List ℕ) → list_all (λ x. leb x 2) conditions ≡ conditions_fit conditions
+unfolding conditions_fit
+all_fit [] = refl
+all_fit (x ∷ rest) = ap (λ (b : Bool). leb x 2 && b) (all_fit rest)
 
 pub returns : goal.returns
-returns c = sym (none_left c.args.conditions.now c.loop-i.i c.loop-i-test.false) ∙ c.loop-i.invariant
+returns c =
+    let xs = c.args.conditions.now in
+    all_from_yields_List (λ x. leb x 2) _ _ _ c.all.ensures.ran (YieldsList-from_slice xs cc)
+    (λ x b q k. search (rules, tests))
+    ∙ all_fit xs

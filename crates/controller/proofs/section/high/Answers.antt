@@ -1,7 +1,7 @@
 -- Shifted by c, the bit below the mask's is that of section 0, and the mask's are c - 1 places on.
 use Rattle.std.proofs.Common.{rules, arith, ◌≡◌, sym, ap, ◌∙◌, ℕ, zero, suc, ◌+◌, ◌*◌, ◌-◌, ◌/◌, ◌%◌, ◌^◌, ◌<◌, ◌≤◌, eqb, lit<}
 use native.Mathlib.Nat.{div-eq_of_lt, div-div-eq-div-mul, div-one, pow-le-pow_right, pow-succ'}
-use borrow.Author.Tests.{ne_eqb}
+use borrow.Author.Tests.{ne_eqb, lt-leb}
 use Rattle.controller.specs.Settings.{high}
 use Rattle.controller.proofs.section.high.Goals as goal
 
@@ -19,7 +19,7 @@ bit_above mask (suc k) =
     rw (down, ne_eqb (suc k) 0 (omega arith), before)
 
 pub returns-then-c-le16 : goal.returns-then-c-le16
-returns-then-c-le16 c = bit_above c.args.mask c.args.c
+returns-then-c-le16 c = rw c.from.ensures (bit_above c.args.mask c.args.c)
 
 -- a mask of 16 bits has none at 16 or above
 pub returns-else-c-le16 : goal.returns-else-c-le16
@@ -30,4 +30,4 @@ returns-else-c-le16 c =
     let least : 2 ^ 16 ≤ 2 ^ (a.c - 1) = pow-le-pow_right (lit< tt) above in
     let below : a.mask < 2 ^ 16 = search rules in
     let none : a.mask / 2 ^ (a.c - 1) ≡ 0 = div-eq_of_lt (omega arith) in
-    rw (none, ne_eqb a.c 0 (omega arith))
+    rw (lt-leb a.c 16 past, none, ne_eqb a.c 0 (omega arith))
