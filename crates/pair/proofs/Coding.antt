@@ -1,39 +1,41 @@
 -- Laws of decoding and encoding: each answer tells the numbers that it was made of, and the two undo each other.
 use mathlib.Core.Path.{◌≡◌, refl, sym, ap, ◌∙◌}
 use mathlib.Core.Bool.{Bool, true, false, not, ◌&&◌, ◌||◌, and-eq-true_iff, false≢true}
-use mathlib.Core.List.{[], ◌∷◌}
+use mathlib.Core.List.{List, [], ◌∷◌}
 use mathlib.Core.Logic.{◌↔◌}
 use Prim.Native.Nat.{ℕ, ◌+◌, ◌*◌, ◌/◌, ◌%◌, ◌≤◌, ◌<◌}
 use native.Mathlib.Omega.{arith}
 use lib.Dec.{leb, ltb, eqb, lit<}
 use lib.ListN.{drop}
 use borrow.Author.Tests.{ltb-true, lt-leb, leb-true, ltb-false, eqb-true, eqb-false, eq-eqb, ne_eqb, le-leb, le-ltb, not-false}
+use Rattle.std.specs.Prelude.{Result, Ok, Err}
 use Rattle.basics.specs.Answer.{Answers}
 use Rattle.basics.specs.First.{◌when◌, first_or}
 use Rattle.basics.specs.Settings.{sections_fit}
 use Rattle.basics.proofs.One.{answers}
 use Rattle.basics.proofs.First.{never_given, none_of}
 use Rattle.pair.specs.Request.{requests, listed, carries}
-use Rattle.pair.specs.Marks.{code_of, channel_of, bridged_of, bit5, line_bits}
+use Rattle.pair.specs.Marks.{code_of, channel_of, bridged_of, bit5, line_bits, mark_number, mark_with}
 use Rattle.pair.specs.Marks.{Finding, nothing, alarmed, marked, checks_with, pair_checks, finding, is_nothing, is_alarm, mark_in}
 use Rattle.pair.specs.Marks.{usable, alarm, mark, second_usable, alarm_in}
 use Rattle.pair.specs.Table.{number_for, listed_in, usable_in}
 use Rattle.pair.specs.Coder.{decoding_told, decoding_case, pair_of, decoding_of, decoding_by, decoding, decoding_looked}
 use Rattle.pair.specs.Coder.{line_of, encoding_told, encoding_case, encodable, encoding}
+use Rattle.basics.specs.declared.refusal.Refusal.{Refusal}
+use Rattle.basics.specs.declared.refusal.Refusal.TheVariants as refusal
 use Rattle.pair.specs.declared.Pair.{Pair}
 use Rattle.pair.specs.declared.Decoded.{Decoded}
 use Rattle.pair.specs.declared.Decoded.TheVariants as decoded
-use Rattle.pair.specs.declared.Encoded.{Encoded}
-use Rattle.pair.specs.declared.Encoded.TheVariants as encoded
 use Rattle.pair.proofs.Rows.{carried_below, carried_within, carried_listed}
+use Rattle.pair.proofs.Marked.{mark_some}
 use Rattle.pair.proofs.Words.{bit_in, bit_in_lem}
 use Rattle.pair.proofs.Looking.{listed_looked, usable_looked}
 
--- no fault has mark 0
+-- each fault that is found has the number of a mark
 abbrev unnamed : Finding → Bool
 unnamed nothing = false
 unnamed alarmed = false
-unnamed (marked m) = eqb m 0
+unnamed (marked m) = not (eqb (mark_number (mark_with m)) m)
 
 checks_named : (l c : Bool) (n k2 : ℕ) → unnamed (first_or nothing (checks_with l c n k2)) ≡ false
 checks_named l c n k2 = never_given unnamed nothing (checks_with l c n k2) refl refl
@@ -43,11 +45,18 @@ unfolding finding
 finding_named n k1 k2 =
     checks_named (listed requests (code_of k1)) (carries requests n (code_of k1) (channel_of k1)) n k2
 
+-- a number that comes back from its mark is one of a mark, and not 0
+named_mark : (m : ℕ) → unnamed (marked m) ≡ false → mark_number (mark_with m) ≡ m
+named_mark m h = eqb-true (mark_number (mark_with m)) m (not-false (eqb (mark_number (mark_with m)) m) h)
+
+named_some : (m : ℕ) → unnamed (marked m) ≡ false → eqb m 0 ≡ false
+named_some m h = ne_eqb m 0 (λ e. mark_some (mark_with m) (named_mark m h ∙ e))
+
 told_back : (k1 k2 : ℕ) (f : Finding) → unnamed f ≡ false
     → decoding_told (decoding_case (decoding_of k1 k2 f)) ≡ decoding_of k1 k2 f
 told_back k1 k2 nothing h = refl
 told_back k1 k2 alarmed h = refl
-told_back k1 k2 (marked m) h = rw h
+told_back k1 k2 (marked m) h = rw (named_some m h, named_mark m h)
 
 decoding_whole : (n k1 k2 : ℕ) (f : Finding) → unnamed f ≡ false
     → decoding_told (decoding_case (decoding_by n k1 k2 f)) ≡ decoding_by n k1 k2 f
@@ -57,7 +66,7 @@ decoding_whole n k1 k2 f named = go (sections_fit n) refl
     go true fits = rw fits (told_back k1 k2 f named)
     go false fits = rw fits
 
-pub looked_by : (number n k1 k2 : ℕ) {r : Decoded} → r ≡ decoding_case (decoding_looked number n k1 k2)
+pub looked_by : (number n k1 k2 : ℕ) {r : Result Decoded Refusal} → r ≡ decoding_case (decoding_looked number n k1 k2)
     → Answers decoding_told decoding_case (decoding_looked number n k1 k2) r
 unfolding decoding_looked
 looked_by number n k1 k2 e =
@@ -74,7 +83,7 @@ encoding_whole n p = go (sections_fit n) (encodable n p) refl refl
     go true false fits can = rw (fits, can)
     go false e fits can = rw fits
 
-pub encoded_by : (n : ℕ) (p : Pair) {r : Encoded} → r ≡ encoding_case (encoding n p)
+pub encoded_by : (n : ℕ) (p : Pair) {r : Result (List ℕ) Refusal} → r ≡ encoding_case (encoding n p)
     → Answers encoding_told encoding_case (encoding n p) r
 encoded_by n p e = answers (encoding_whole n p) e
 
@@ -111,7 +120,7 @@ unfolding decoding
 fit_decoding n k1 k2 = fit_by n k1 k2
 
 pub unfit_by : (n k1 k2 : ℕ) (found : Finding) → sections_fit n ≡ false
-    → decoding_case (decoding_by n k1 k2 found) ≡ decoded.Refused 1
+    → decoding_case (decoding_by n k1 k2 found) ≡ Err refusal.Sections
 unfit_by n k1 k2 found other = rw other
 
 -- with the number of its K1 a pair decodes as it does
@@ -204,27 +213,27 @@ usable_quiet : (n k1 k2 : ℕ) → usable n k1 k2 ≡ true → alarm n k1 k2 ≡
 unfolding alarm
 usable_quiet n k1 k2 h = rw (nothing_found n k1 k2 h)
 
-pub usable_facts : (n k1 k2 : ℕ) (p : Pair) → decoding_case (decoding n k1 k2) ≡ decoded.Usable p
+pub usable_facts : (n k1 k2 : ℕ) (p : Pair) → decoding_case (decoding n k1 k2) ≡ Ok (decoded.Usable p)
     → UsablePair n k1 k2 × (p ≡ pair_of k1 k2)
 unfolding decoding usable
 usable_facts n k1 k2 p h = go (sections_fit n) (finding n k1 k2) refl refl
   where
     go : (t : Bool) (f : Finding) → sections_fit n ≡ t → finding n k1 k2 ≡ f → UsablePair n k1 k2 × (p ≡ pair_of k1 k2)
     go true nothing fits e =
-        let given : decoded.Usable (pair_of k1 k2) ≡ decoded.Usable p = rw (fits, e) at h in
+        let given : Ok (decoded.Usable (pair_of k1 k2)) ≡ Ok (decoded.Usable p) = rw (fits, e) at h in
         (usable_parts n k1 k2 fits (rw e), cc)
     go true alarmed fits e =
-        let given : decoded.Alarm ≡ decoded.Usable p = rw (fits, e) at h in
+        let given : Ok decoded.Alarm ≡ Ok (decoded.Usable p) = rw (fits, e) at h in
         let none : ◌≡◌ {A = ℕ} 0 1 = cc in absurd (omega arith)
     go true (marked m) fits e =
-        let named : eqb m 0 ≡ false = rw e at (finding_named n k1 k2) in
-        let given : decoded.Marked m ≡ decoded.Usable p = simp (fits, e, named) at h in
+        let named = named_some m (rw e at (finding_named n k1 k2)) in
+        let given : Ok (decoded.Marked (mark_with m)) ≡ Ok (decoded.Usable p) = simp (fits, e, named) at h in
         let none : ◌≡◌ {A = ℕ} 0 1 = cc in absurd (omega arith)
     go false f fits e =
-        let given : decoded.Refused 1 ≡ decoded.Usable p = rw fits at h in
+        let given : Err refusal.Sections ≡ Ok (decoded.Usable p) = rw fits at h in
         let none : ◌≡◌ {A = ℕ} 0 1 = cc in absurd (omega arith)
 
-pub facts_usable : (n k1 k2 : ℕ) → UsablePair n k1 k2 → decoding_case (decoding n k1 k2) ≡ decoded.Usable (pair_of k1 k2)
+pub facts_usable : (n k1 k2 : ℕ) → UsablePair n k1 k2 → decoding_case (decoding n k1 k2) ≡ Ok (decoded.Usable (pair_of k1 k2))
 facts_usable n k1 k2 u = fit_decoding n k1 k2 u.fits (nothing_found n k1 k2 (parts_usable n k1 k2 u))
 
 -- the bytes that a record is encoded to
@@ -261,7 +270,7 @@ bytes_usable n p fits can =
       λ i. record { code = code i; channel = channel i; bridged = bridged i; remote = read i },
     )
 
-encoded_facts : (n : ℕ) (p : Pair) (k1 k2 : ℕ) → encoding_case (encoding n p) ≡ encoded.Bytes k1 k2
+encoded_facts : (n : ℕ) (p : Pair) (k1 k2 : ℕ) → encoding_case (encoding n p) ≡ Ok (k1 ∷ k2 ∷ [])
     → (sections_fit n ≡ true) × (encodable n p ≡ true) × (first_byte p ≡ k1) × (second_byte p ≡ k2)
 unfolding encoding
 encoded_facts n p k1 k2 h = go (sections_fit n) (encodable n p) refl refl
@@ -269,20 +278,20 @@ encoded_facts n p k1 k2 h = go (sections_fit n) (encodable n p) refl refl
     go : (f e : Bool) → sections_fit n ≡ f → encodable n p ≡ e
         → (sections_fit n ≡ true) × (encodable n p ≡ true) × (first_byte p ≡ k1) × (second_byte p ≡ k2)
     go true true fits can =
-        let e : encoded.Bytes (first_byte p) (second_byte p) ≡ encoded.Bytes k1 k2 = simp (fits, can) at h in
+        let e : Ok (first_byte p ∷ second_byte p ∷ []) ≡ Ok (k1 ∷ k2 ∷ []) = simp (fits, can) at h in
         (fits, can, cc, cc)
     go true false fits can =
-        let e : encoded.Refused 10 ≡ encoded.Bytes k1 k2 = simp (fits, can) at h in
+        let e : Err refusal.NotDecoded ≡ Ok (k1 ∷ k2 ∷ []) = simp (fits, can) at h in
         let none : ◌≡◌ {A = ℕ} 0 1 = cc in absurd (omega arith)
     go false e fits can =
-        let e : encoded.Refused 1 ≡ encoded.Bytes k1 k2 = simp fits at h in
+        let e : Err refusal.Sections ≡ Ok (k1 ∷ k2 ∷ []) = simp fits at h in
         let none : ◌≡◌ {A = ℕ} 0 1 = cc in absurd (omega arith)
 
 pair_encodable : (n k1 k2 : ℕ) → UsablePair n k1 k2 → encodable n (pair_of k1 k2) ≡ true
 pair_encodable n k1 k2 u = rw u.carried u.bridged
 
-pub pair_back : (n k1 k2 : ℕ) (p : Pair) → decoding_case (decoding n k1 k2) ≡ decoded.Usable p
-    → encoding_case (encoding n p) ≡ encoded.Bytes k1 k2
+pub pair_back : (n k1 k2 : ℕ) (p : Pair) → decoding_case (decoding n k1 k2) ≡ Ok (decoded.Usable p)
+    → encoding_case (encoding n p) ≡ Ok (k1 ∷ k2 ∷ [])
 unfolding encoding
 pair_back n k1 k2 p h =
     let facts = usable_facts n k1 k2 p h in
@@ -293,15 +302,15 @@ pair_back n k1 k2 p h =
     let second : second_byte (pair_of k1 k2) ≡ k2 = omega arith in
     rw (facts.1, u.fits, pair_encodable n k1 k2 u, first, second)
 
-pub record_back : (n : ℕ) (p : Pair) (k1 k2 : ℕ) → encoding_case (encoding n p) ≡ encoded.Bytes k1 k2
-    → decoding_case (decoding n k1 k2) ≡ decoded.Usable p
+pub record_back : (n : ℕ) (p : Pair) (k1 k2 : ℕ) → encoding_case (encoding n p) ≡ Ok (k1 ∷ k2 ∷ [])
+    → decoding_case (decoding n k1 k2) ≡ Ok (decoded.Usable p)
 record_back n p k1 k2 h =
     let facts = encoded_facts n p k1 k2 h in
     let made = bytes_usable n p facts.0 facts.1 in
-    rw (← facts.2, ← facts.3) (facts_usable n (first_byte p) (second_byte p) made.0 ∙ ap decoded.Usable made.1)
+    rw (← facts.2, ← facts.3) (facts_usable n (first_byte p) (second_byte p) made.0 ∙ ap (λ (q : Pair). Ok (decoded.Usable q)) made.1)
 
 -- no record encodes to an alarm
-pub record_quiet : (n : ℕ) (p : Pair) (k1 k2 : ℕ) → encoding_case (encoding n p) ≡ encoded.Bytes k1 k2
+pub record_quiet : (n : ℕ) (p : Pair) (k1 k2 : ℕ) → encoding_case (encoding n p) ≡ Ok (k1 ∷ k2 ∷ [])
     → alarm n k1 k2 ≡ false
 record_quiet n p k1 k2 h =
     let facts = usable_facts n k1 k2 p (record_back n p k1 k2 h) in
@@ -309,19 +318,19 @@ record_quiet n p k1 k2 h =
 
 pub encodable_exact : (n : ℕ) (p : Pair) → sections_fit n ≡ true
     → (encodable n p ≡ true)
-    ↔ ((k1 : ℕ) × (k2 : ℕ) × (k1 < 256) × (k2 < 256) × (decoding_case (decoding n k1 k2) ≡ decoded.Usable p))
+    ↔ ((k1 : ℕ) × (k2 : ℕ) × (k1 < 256) × (k2 < 256) × (decoding_case (decoding n k1 k2) ≡ Ok (decoded.Usable p)))
 encodable_exact n p fits = (forward, backward)
   where
     forward : encodable n p ≡ true
-        → (k1 : ℕ) × (k2 : ℕ) × (k1 < 256) × (k2 < 256) × (decoding_case (decoding n k1 k2) ≡ decoded.Usable p)
+        → (k1 : ℕ) × (k2 : ℕ) × (k1 < 256) × (k2 < 256) × (decoding_case (decoding n k1 k2) ≡ Ok (decoded.Usable p))
     forward can =
         let room = four_bits n p fits can in
         let short = line_below p.remote in
         let made = bytes_usable n p fits can in
-        let back = facts_usable n (first_byte p) (second_byte p) made.0 ∙ ap decoded.Usable made.1 in
+        let back = facts_usable n (first_byte p) (second_byte p) made.0 ∙ ap (λ (q : Pair). Ok (decoded.Usable q)) made.1 in
         (first_byte p, second_byte p, omega arith, omega arith, back)
 
-    backward : (k1 : ℕ) × (k2 : ℕ) × (k1 < 256) × (k2 < 256) × (decoding_case (decoding n k1 k2) ≡ decoded.Usable p)
+    backward : (k1 : ℕ) × (k2 : ℕ) × (k1 < 256) × (k2 < 256) × (decoding_case (decoding n k1 k2) ≡ Ok (decoded.Usable p))
         → encodable n p ≡ true
     backward some =
         let facts = usable_facts n some.0 some.1 p some.4 in

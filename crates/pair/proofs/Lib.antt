@@ -2,6 +2,7 @@
 pub mod Rows
 pub mod Looking
 mod Words
+pub mod Marked
 pub mod Coding
 pub mod Ranks
 mod Theorems

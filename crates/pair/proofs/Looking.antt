@@ -11,13 +11,12 @@ use borrow.Author.Tests.{leb-true, le-leb, lt-leb, eqb-true, eqb-false}
 use Rattle.basics.specs.Settings.{sections_fit}
 use Rattle.basics.proofs.Fitting.{fit_bounds}
 use Rattle.basics.proofs.Table.{entry_is}
-use Rattle.pair.specs.Request.{Row, channel_0, a_section, class_of, listed, carries, rank_in}
+use Rattle.pair.specs.Request.{Row, requests, channel_0, a_section, class_of, listed, carries, rank_in}
 use Rattle.pair.specs.Marks.{code_of, channel_of}
 use Rattle.pair.specs.Table.{usable_for, rank_for, least_from, greatest_to, least_of, greatest_of, mark_for, value_of}
-use Rattle.pair.specs.Table.{number_of, value_in, number_for, table_of, read_by}
+use Rattle.pair.specs.Table.{Value, number_of, value_in, number_for, table_of, read_by}
 use Rattle.pair.specs.Table.{listed_in, usable_in, read_in}
-use Rattle.pair.specs.declared.Value.{Value}
-use Rattle.pair.proofs.Rows.{held_in, carries_0, carries_section, carried_within, carried_listed, unheld, and_true}
+use Rattle.pair.proofs.Rows.{held_in, carries_0, carries_section, carried_within, carried_listed, unheld, and_true, beyond_carries}
 
 -- the least and the greatest n for which a test holds
 module _ (test : ℕ → Bool) where
@@ -250,6 +249,12 @@ module _ (rows : List Row) (k1 : ℕ) where
           let some = eqb-false (least_of rows k1) 0 e in
           rw e (inr (inr refl), (λ m. omega (arith, some), λ h. refl))
 
+  pub number_kinds :
+      let v = value_in (number_for rows k1) in
+      (v.mark ≡ 3) ⊎ (v.mark ≡ 4) ⊎ (v.mark ≡ 0)
+  number_kinds =
+      subst (λ (v : Value). (v.mark ≡ 3) ⊎ (v.mark ≡ 4) ⊎ (v.mark ≡ 0)) (sym value_back) value_kinds.0
+
   value_marked : (n : ℕ) → sections_fit n ≡ true → ((value_of rows k1).mark ≡ 3) ⊎ ((value_of rows k1).mark ≡ 4)
       → usable_for rows k1 n ≡ false
   value_marked n fits m = go (eqb (least_of rows k1) 0) refl
@@ -310,3 +315,22 @@ module _ (table : List ℕ) (rows : List Row) (whole : table ≡ table_of rows) 
       subst
       (λ (v : Value). ((v.mark ≡ 3) ⊎ (v.mark ≡ 4) ⊎ (v.mark ≡ 0)) × ((v.mark ≡ 0) ↔ (1 ≤ v.least)))
       (sym (value_at below)) (value_kinds rows k1)
+
+-- a code carries no channel that has no room beside it in a K1, be it the code or the channel that has none
+pub code_beyond : (n code c : ℕ) → 16 ≤ code → carries requests n code c ≡ false
+code_beyond n code c above = beyond_carries 16 code above requests n c refl
+
+pub channel_beyond : (n code c : ℕ) → sections_fit n ≡ true → 16 ≤ c → carries requests n code c ≡ false
+channel_beyond n code c fits above = go (carries requests n code c) refl
+  where
+    go : (t : Bool) → carries requests n code c ≡ t → carries requests n code c ≡ false
+    go true e = let most = carried_most requests n code c fits e in absurd (omega arith)
+    go false e = e
+
+-- and whether it carries another is read off the table
+pub carried_looked : (n code c : ℕ) → sections_fit n ≡ true → c < 16
+    → usable_in (number_for requests (code * 16 + c)) n ≡ carries requests n code c
+carried_looked n code c fits room =
+    let code_back : code_of (code * 16 + c) ≡ code = omega arith in
+    let channel_back : channel_of (code * 16 + c) ≡ c = omega arith in
+    rw (code_back, channel_back) at (usable_looked requests (code * 16 + c) n fits)

@@ -8,7 +8,7 @@ use native.Mathlib.Omega.{arith}
 use lib.Dec.{eqb, leb, ltb, lit<}
 use lib.ListN.{length, get_or}
 use borrow.Author.Tests.{eqb-true, leb-true, lt-ltb}
-use Rattle.std.specs.Prelude.{if◌then◌else◌}
+use Rattle.std.specs.Prelude.{if◌then◌else◌, Ok}
 use Rattle.basics.specs.Table.{every}
 use Rattle.basics.proofs.Table.{at_entry}
 use Rattle.pair.specs.Request.{Channels, zero_only, sections, zero_and_sections, Row, row, requests}
@@ -123,7 +123,7 @@ fail_outranks c = go (eqb c 0) refl
     go true e = rw e (lit< tt)
     go false e = rw e (lit< tt)
 
-pub usable_row : (n k1 k2 : ℕ) (p : Pair) → decoding_case (decoding n k1 k2) ≡ decoded.Usable p
+pub usable_row : (n k1 k2 : ℕ) (p : Pair) → decoding_case (decoding n k1 k2) ≡ Ok (decoded.Usable p)
     → (i : ℕ) × (i < length requests) × (stands (row_at i) n p.code p.channel ≡ true)
 usable_row n k1 k2 p h =
     let facts = usable_facts n k1 k2 p h in

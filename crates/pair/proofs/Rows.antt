@@ -6,8 +6,10 @@ use Prim.Native.Nat.{ℕ, ◌≤◌, ◌<◌}
 use native.Mathlib.Omega.{arith}
 use lib.Dec.{leb, ltb, eqb, leb-zero}
 use borrow.Author.Tests.{ltb-true, ltb-false, leb-true, eqb-true, eqb-false, ne_eqb, le-leb}
-use Rattle.basics.specs.Table.{every}
-use Rattle.pair.specs.Request.{Channels, zero_only, sections, zero_and_sections, Row, among, listed, carries}
+use lib.ListN.{get_or, get_or-eq_default}
+use Rattle.basics.specs.Table.{every, values}
+use Rattle.basics.proofs.Table.{entry_is}
+use Rattle.pair.specs.Request.{Channels, zero_only, sections, zero_and_sections, Row, requests, among, listed, carries}
 use Rattle.pair.specs.Request.{Class, channel_0, a_section, includes, rank_in}
 
 -- some row has the code and includes the class
@@ -118,3 +120,13 @@ carried_listed (r ∷ rest) n code c h = go (eqb code r.code) refl (carried_list
         → listed (r ∷ rest) code ≡ true
     go true e ih = rw e
     go false e ih = rw e (ih (rw e at h))
+
+-- a table of the ranks of sixteen codes has the rank of every code, since no row of the requests has a code beyond them
+pub ranks_at : (class : Class) (code : ℕ) → get_or (values (rank_in requests class) 16) code 0 ≡ rank_in requests class code
+ranks_at class code = go (ltb code 16) refl
+  where
+    go : (t : Bool) → ltb code 16 ≡ t → get_or (values (rank_in requests class) 16) code 0 ≡ rank_in requests class code
+    go true e = entry_is (rank_in requests class) 16 code (ltb-true code 16 e)
+    go false e =
+        let beyond : 16 ≤ code = ltb-false code 16 e in
+        get_or-eq_default (values (rank_in requests class) 16) 0 beyond ∙ sym (beyond_rank 16 code beyond requests class refl)

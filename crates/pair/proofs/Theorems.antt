@@ -1,10 +1,11 @@
 -- The front door: what is proved of the coder, each theorem in full with the line that cites its proof.
 use mathlib.Core.Path.{◌≡◌, refl}
 use mathlib.Core.Bool.{true, false, ◌&&◌}
-use mathlib.Core.List.{List}
+use mathlib.Core.List.{List, [], ◌∷◌}
 use mathlib.Core.Logic.{◌↔◌, ◌⊎◌}
 use Prim.Native.Nat.{ℕ, ◌<◌, ◌≤◌}
 use lib.ListN.{length, get_or}
+use Rattle.std.specs.Prelude.{Ok}
 use Rattle.basics.specs.First.{applies_at, answer_or, FirstAt}
 use Rattle.basics.specs.Settings.{sections_fit}
 use Rattle.basics.proofs.First.{first_given, first_shown, none_of}
@@ -15,10 +16,10 @@ use Rattle.pair.specs.Table.{usable_for, value_in, number_for, table_of, read_by
 use Rattle.pair.specs.Coder.{decoding_case, decoding, decoding_looked, encoding_case, encodable, encoding}
 use Rattle.pair.specs.declared.Pair.{Pair}
 use Rattle.pair.specs.declared.Decoded.TheVariants as decoded
-use Rattle.pair.specs.declared.Encoded.TheVariants as encoded
 use Rattle.pair.proofs.Coding.{fit_found, pair_back, record_back, record_quiet, encodable_exact}
 use Rattle.pair.proofs.Coding.{decoding_looked_lem, usable_test, alarm_test}
 use Rattle.pair.proofs.Looking.{table_read, table_marked, table_usable, table_kinds}
+use Rattle.pair.proofs.Marked.{value_one}
 use Rattle.pair.proofs.Ranks.{row_at, row_rank, usable_row, fail_outranks, rank_most, rank_own}
 use Rattle.pair.proofs.decode.Kinds as decode-kinds
 use Rattle.pair.proofs.decode.Reads as decode
@@ -94,24 +95,24 @@ alarm_right : {M : Type 1} → alarm-statement.statement M
 alarm_right = alarm-met.met
 
 -- Decoding a usable pair and encoding the record gives the pair back.
-pair_right : (n k1 k2 : ℕ) (p : Pair) → decoding_case (decoding n k1 k2) ≡ decoded.Usable p
-    → encoding_case (encoding n p) ≡ encoded.Bytes k1 k2
+pair_right : (n k1 k2 : ℕ) (p : Pair) → decoding_case (decoding n k1 k2) ≡ Ok (decoded.Usable p)
+    → encoding_case (encoding n p) ≡ Ok (k1 ∷ k2 ∷ [])
 pair_right = pair_back
 
 -- Encoding a record that is not refused and decoding the bytes gives the record back.
-record_right : (n : ℕ) (p : Pair) (k1 k2 : ℕ) → encoding_case (encoding n p) ≡ encoded.Bytes k1 k2
-    → decoding_case (decoding n k1 k2) ≡ decoded.Usable p
+record_right : (n : ℕ) (p : Pair) (k1 k2 : ℕ) → encoding_case (encoding n p) ≡ Ok (k1 ∷ k2 ∷ [])
+    → decoding_case (decoding n k1 k2) ≡ Ok (decoded.Usable p)
 record_right = record_back
 
 -- An alarm is no record, so no record encodes to one.
-record_no_alarm : (n : ℕ) (p : Pair) (k1 k2 : ℕ) → encoding_case (encoding n p) ≡ encoded.Bytes k1 k2
+record_no_alarm : (n : ℕ) (p : Pair) (k1 k2 : ℕ) → encoding_case (encoding n p) ≡ Ok (k1 ∷ k2 ∷ [])
     → alarm n k1 k2 ≡ false
 record_no_alarm = record_quiet
 
 -- A record is encoded exactly if some usable pair decodes to it; refusal 10 is for all others.
 encodable_right : (n : ℕ) (p : Pair) → sections_fit n ≡ true
     → (encodable n p ≡ true)
-    ↔ ((k1 : ℕ) × (k2 : ℕ) × (k1 < 256) × (k2 < 256) × (decoding_case (decoding n k1 k2) ≡ decoded.Usable p))
+    ↔ ((k1 : ℕ) × (k2 : ℕ) × (k1 < 256) × (k2 < 256) × (decoding_case (decoding n k1 k2) ≡ Ok (decoded.Usable p)))
 encodable_right = encodable_exact
 
 -- What is found in a pair is the answer of the first check, in the paper's order, that applies, so that a pair with
@@ -175,7 +176,7 @@ usable_apart : (n k1 k2 : ℕ) → usable_for requests k1 n && second_usable n k
 usable_apart = usable_test
 
 -- The request of a usable pair stands in a row of the table, and has the rank of each row that it stands in.
-row_complete : (n k1 k2 : ℕ) (p : Pair) → decoding_case (decoding n k1 k2) ≡ decoded.Usable p
+row_complete : (n k1 k2 : ℕ) (p : Pair) → decoding_case (decoding n k1 k2) ≡ Ok (decoded.Usable p)
     → (i : ℕ) × (i < length requests) × (stands (row_at i) n p.code p.channel ≡ true)
 row_complete = usable_row
 
@@ -205,7 +206,7 @@ rank_unique : OneAnswer 0 rank-kinds.ps rank-kinds.r rank.Post
 rank_unique κs args x y s t p q = one_value p q
 
 value_of_unique : OneAnswer 0 value-of-kinds.ps value-of-kinds.r value_of_lem.Post
-value_of_unique κs args x y s t p q = one_value p q
+value_of_unique κs args x y s t p q = value_one (one_value p q)
 
 -- So it is for what is open to the crates above alone: `numbers`, `rank_in`, `usable_in`, `decode_looked`, `second_usable`,
 -- `alarm`.

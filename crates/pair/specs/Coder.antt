@@ -1,16 +1,18 @@
--- Decoding and encoding: the numbers that the paper has for each answer, and the case of the enum that holds them.
+-- Decoding and encoding: the numbers that the paper has for each answer, and the answer that numbers call for.
 use Rattle.std.specs.Prelude.{if◌then◌else◌, Bool, true, false, ◌&&◌, ℕ, ◌+◌, ◌*◌, leb, eqb}
+use Rattle.std.specs.Prelude.{List, [], ◌∷◌, get_or, Result, Ok, Err}
 use Rattle.basics.specs.First.{first_or}
+use Rattle.basics.specs.Refusal.{refusal_number, refusal_with}
 use Rattle.basics.specs.Settings.{sections_fit}
 use Rattle.pair.specs.Request.{requests, carries}
 use Rattle.pair.specs.Marks.{code_of, channel_of, bridged_of, line_bits}
+use Rattle.pair.specs.Marks.{mark_number, mark_with}
 use Rattle.pair.specs.Marks.{Finding, nothing, alarmed, marked, checks_with, finding}
 use Rattle.pair.specs.Table.{listed_in, usable_in}
+use Rattle.basics.specs.declared.refusal.Refusal.{Refusal}
 use Rattle.pair.specs.declared.Pair.{Pair}
 use Rattle.pair.specs.declared.Decoded.{Decoded}
 use Rattle.pair.specs.declared.Decoded.TheVariants as decoded
-use Rattle.pair.specs.declared.Encoded.{Encoded}
-use Rattle.pair.specs.declared.Encoded.TheVariants as encoded
 
 -- what the decoder answers
 pub record Decoding : Type 0 where
@@ -40,22 +42,26 @@ abbrev pub alone : ℕ → ℕ → Bool → Decoding
 alone k m a =
     record { refusal = k; mark = m; code = 0; channel = 0; bridged = 0; remote = false; alarm = a }
 
--- the numbers that each case of the enum stands for
-abbrev pub decoding_told : Decoded → Decoding
-decoding_told (decoded.Usable p) = record_of p
-decoding_told (decoded.Marked m) = alone 0 m false
-decoding_told decoded.Alarm = alone 0 0 true
-decoding_told (decoded.Refused k) = alone k 0 false
+-- the numbers that each answer stands for
+abbrev pub decoded_told : Decoded → Decoding
+decoded_told (decoded.Usable p) = record_of p
+decoded_told (decoded.Marked m) = alone 0 (mark_number m) false
+decoded_told decoded.Alarm = alone 0 0 true
 
--- the case that numbers call for
-abbrev pub decoding_case : Decoding → Decoded
-decoding_case d =
-    if eqb d.refusal 0 then
+abbrev pub decoding_told : Result Decoded Refusal → Decoding
+decoding_told (Ok d) = decoded_told d
+decoding_told (Err e) = alone (refusal_number e) 0 false
+
+-- the answer that numbers call for
+abbrev pub decoded_case : Decoding → Decoded
+decoded_case d =
     if d.alarm then decoded.Alarm else
     if eqb d.mark 0 then
     decoded.Usable (record { code = d.code; channel = d.channel; bridged = d.bridged; remote = d.remote })
-    else decoded.Marked d.mark
-    else decoded.Refused d.refusal
+    else decoded.Marked (mark_with d.mark)
+
+abbrev pub decoding_case : Decoding → Result Decoded Refusal
+decoding_case d = if eqb d.refusal 0 then Ok (decoded_case d) else Err (refusal_with d.refusal)
 
 -- what a usable pair holds
 abbrev pub pair_of : ℕ → ℕ → Pair
@@ -90,12 +96,12 @@ pub record Encoding : Type 0 where
   pub k1 : ℕ
   pub k2 : ℕ
 
-abbrev pub encoding_told : Encoded → Encoding
-encoding_told (encoded.Bytes a b) = record { refusal = 0; k1 = a; k2 = b }
-encoding_told (encoded.Refused k) = record { refusal = k; k1 = 0; k2 = 0 }
+abbrev pub encoding_told : Result (List ℕ) Refusal → Encoding
+encoding_told (Ok bytes) = record { refusal = 0; k1 = get_or bytes 0 0; k2 = get_or bytes 1 0 }
+encoding_told (Err e) = record { refusal = refusal_number e; k1 = 0; k2 = 0 }
 
-abbrev pub encoding_case : Encoding → Encoded
-encoding_case e = if eqb e.refusal 0 then encoded.Bytes e.k1 e.k2 else encoded.Refused e.refusal
+abbrev pub encoding_case : Encoding → Result (List ℕ) Refusal
+encoding_case e = if eqb e.refusal 0 then Ok (e.k1 ∷ e.k2 ∷ []) else Err (refusal_with e.refusal)
 
 -- a usable pair decodes to the record (Theorems.encodable_right): its code carries its channel, and its bridged channel
 -- is not above n

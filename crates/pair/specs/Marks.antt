@@ -1,7 +1,10 @@
 -- The parts of the two bytes, and what a pair is checked for, in its order (01, 'The byte pair'; 02, c).
-use Rattle.std.specs.Prelude.{Bool, true, false, not, ◌&&◌, ◌||◌, List, [], ◌∷◌, ℕ, ◌/◌, ◌%◌, ltb, leb, eqb}
+use Rattle.std.specs.Prelude.{if◌then◌else◌, Bool, true, false, not, ◌&&◌, ◌||◌, List, [], ◌∷◌, ℕ, ◌/◌, ◌%◌, ltb, leb, eqb}
+use Rattle.std.specs.Prelude.{Option, Some, None}
 use Rattle.basics.specs.First.{CheckFor, ◌when◌, first_or}
 use Rattle.pair.specs.Request.{requests, listed, carries}
+use Rattle.pair.specs.declared.mark.Mark.{Mark}
+use Rattle.pair.specs.declared.mark.Mark.TheVariants as fault
 
 -- K1: upper four bits request code, lower four channel
 abbrev pub code_of : ℕ → ℕ
@@ -19,6 +22,29 @@ bit5 k2 = k2 / 8 % 2
 
 abbrev pub line_bits : ℕ → ℕ
 line_bits k2 = k2 % 8
+
+-- the number of a mark, and the mark that a number is of; 0 is the number of none
+abbrev pub mark_number : Mark → ℕ
+mark_number fault.Architecture = 1
+mark_number fault.LineBits = 2
+mark_number fault.Code = 3
+mark_number fault.Channel = 4
+mark_number fault.Bridged = 5
+
+abbrev pub mark_with : ℕ → Mark
+mark_with m =
+    if eqb m 1 then fault.Architecture else
+    if eqb m 2 then fault.LineBits else
+    if eqb m 3 then fault.Code else
+    if eqb m 4 then fault.Channel else
+    fault.Bridged
+
+abbrev pub mark_told : Option Mark → ℕ
+mark_told None = 0
+mark_told (Some m) = mark_number m
+
+abbrev pub mark_case : ℕ → Option Mark
+mark_case m = if eqb m 0 then None else Some (mark_with m)
 
 -- what is found in a pair: nothing, an alarm signal, or a fault with its mark
 pub data Finding : Type 0 where

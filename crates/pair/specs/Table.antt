@@ -3,8 +3,8 @@ use Rattle.std.specs.Prelude.{if◌then◌else◌, Bool, not, ◌&&◌, List, []
 use Rattle.basics.specs.First.{◌when◌, first_or}
 use Rattle.basics.specs.Table.{values}
 use Rattle.pair.specs.Request.{Row, listed, carries, class_of, rank_in}
-use Rattle.pair.specs.Marks.{code_of, channel_of}
-use Rattle.pair.specs.declared.Value.{Value}
+use Rattle.pair.specs.Marks.{code_of, channel_of, mark_told}
+use Rattle.pair.specs.declared.Value as value
 
 -- the K1 is usable in a group of n sections
 abbrev pub usable_for : List Row → ℕ → ℕ → Bool
@@ -34,6 +34,16 @@ greatest_of rows k1 = greatest_to 14 (usable_for rows k1)
 -- the mark of one that no n makes usable: 4 if some row has its code, else 3
 abbrev pub mark_for : List Row → ℕ → ℕ
 mark_for rows k1 = if listed rows (code_of k1) then 4 else 3
+
+-- the numbers that are held of a K1
+pub record Value : Type 0 where
+  pub rank : ℕ
+  pub least : ℕ
+  pub greatest : ℕ
+  pub mark : ℕ
+
+abbrev pub value_told : value.Value → Value
+value_told v = record { rank = v.rank; least = v.least; greatest = v.greatest; mark = mark_told v.mark }
 
 -- what is held of a K1: its rank and the least and the greatest n for which it is usable, or its mark; zeros elsewhere
 abbrev pub value_of : List Row → ℕ → Value

@@ -10,11 +10,13 @@ ghost use Rattle.pair.specs.Coder.{decoding_told, decoding_case, decoding, decod
 ghost use Rattle.pair.specs.Coder.{line_of, encoding_told, encoding_case, encoding};
 ghost use Rattle.std.specs.Prelude.{◌≡◌};
 
+use crate::mark::Mark;
 use crate::table::{carried, listed_in, number_for, usable_in};
+use basics::refusal::Refusal;
 use basics::settings::sections_fit;
 
 // What a usable pair holds.
-#[derive(Clone, Copy)]
+#[derive(Clone, Copy, Debug, PartialEq, Eq)]
 pub struct Pair {
     pub code: u8,
     pub channel: u8,
@@ -22,75 +24,64 @@ pub struct Pair {
     pub remote: bool,
 }
 
-// What a pair decodes to: the record of a usable pair, the mark of an unusable one, the alarm of line bits 111 (02, c),
-// or a refusal.
-#[derive(Clone, Copy)]
+// What a pair decodes to: the record of a usable pair, the mark of an unusable one, or the alarm of line bits 111 (02, c).
+#[derive(Clone, Copy, Debug, PartialEq, Eq)]
 pub enum Decoded {
     Usable(Pair),
-    Marked(u8),
+    Marked(Mark),
     Alarm,
-    Refused(u8),
-}
-
-// What a record is encoded to: K1 and K2, or a refusal.
-#[derive(Clone, Copy)]
-pub enum Encoded {
-    Bytes(u8, u8),
-    Refused(u8),
 }
 
 // What the table of K1 values holds of one (02, j): its rank and the least and the greatest n for which it is usable, or the
 // mark 3 or 4 where no n makes it so.
-#[derive(Clone, Copy)]
+#[derive(Clone, Copy, Debug, PartialEq, Eq)]
 pub struct Value {
     pub rank: u8,
     pub least: u8,
     pub greatest: u8,
-    pub mark: u8,
+    pub mark: Option<Mark>,
 }
 
-pub fn decode(n: u8, k1: u8, k2: u8) -> Decoded
+#[tactic(auto, using(crate::proofs::Coding::decoding_looked_lem))]
+pub fn decode(n: u8, k1: u8, k2: u8) -> Result<Decoded, Refusal>
     ensures { Answers decoding_told decoding_case (decoding n k1 k2) result }
 {
     decode_looked(number_for(k1), n, k1, k2)
 }
 
 // The paper's order of checking; K1 has been looked up.
-pub fn decode_looked(number: u16, n: u8, k1: u8, k2: u8) -> Decoded
+#[tactic(auto, using(crate::proofs::Coding::looked_by), unfolding(crate::specs::Coder::decoding_looked))]
+pub fn decode_looked(number: u16, n: u8, k1: u8, k2: u8) -> Result<Decoded, Refusal>
     ensures { Answers decoding_told decoding_case (decoding_looked number n k1 k2) result }
 {
-    let n_fits = sections_fit(n);
-    if !n_fits {
-        return Decoded::Refused(1);
+    if !sections_fit(n) {
+        return Err(Refusal::Sections);
     }
     let line = k2 % 8;
-    let code_listed = listed_in(number);
-    let channel_carried = usable_in(number, n);
-    let bridged_above = n < k2 / 16;
     if k2 / 8 % 2 == 0 {
-        return Decoded::Marked(1);
+        return Ok(Decoded::Marked(Mark::Architecture));
     }
     if line == 0b111 {
-        return Decoded::Alarm;
+        return Ok(Decoded::Alarm);
     }
-    if (line != 0b000) & (line != 0b110) {
-        return Decoded::Marked(2);
+    if line != 0b000 && line != 0b110 {
+        return Ok(Decoded::Marked(Mark::LineBits));
     }
-    if !code_listed {
-        return Decoded::Marked(3);
+    if !listed_in(number) {
+        return Ok(Decoded::Marked(Mark::Code));
     }
-    if !channel_carried {
-        return Decoded::Marked(4);
+    if !usable_in(number, n) {
+        return Ok(Decoded::Marked(Mark::Channel));
     }
-    if bridged_above {
-        return Decoded::Marked(5);
+    if n < k2 / 16 {
+        return Ok(Decoded::Marked(Mark::Bridged));
     }
-    Decoded::Usable(Pair {
+    Ok(Decoded::Usable(Pair {
         code: k1 / 16,
         channel: k1 % 16,
         bridged: k2 / 16,
         remote: line == 0b110,
-    })
+    }))
 }
 
 fn line_bits(remote: bool) -> u8
@@ -99,20 +90,18 @@ fn line_bits(remote: bool) -> u8
     if remote { 0b110 } else { 0b000 }
 }
 
-pub fn encode(n: u8, p: Pair) -> Encoded
+#[tactic(auto, using(crate::proofs::Coding::encoded_by, crate::proofs::Coding::four_bits), unfolding(crate::specs::Coder::encoding))]
+pub fn encode(n: u8, p: Pair) -> Result<[u8; 2], Refusal>
     ensures { Answers encoding_told encoding_case (encoding n p) result }
 {
-    if sections_fit(n) {
-        let code = p.code;
-        let channel = p.channel;
-        let bridged = p.bridged;
-        if carried(n, code, channel) & (bridged <= n) {
-            let line = line_bits(p.remote);
-            Encoded::Bytes(code * 16 + channel, bridged * 16 + 0b1000 + line)
-        } else {
-            Encoded::Refused(10)
-        }
-    } else {
-        Encoded::Refused(1)
+    if !sections_fit(n) {
+        return Err(Refusal::Sections);
     }
+    if !carried(n, p.code, p.channel) || n < p.bridged {
+        return Err(Refusal::NotDecoded);
+    }
+    Ok([
+        p.code * 16 + p.channel,
+        p.bridged * 16 + 0b1000 + line_bits(p.remote),
+    ])
 }

@@ -1,10 +1,12 @@
 // The table of K1 values (02, j): what the coder's rules say of a K1, in one look.
-ghost use Rattle.std.specs.Prelude.{◌/◌, true, ◌≡◌};
+ghost use Rattle.std.specs.Prelude.{◌/◌, true, ◌≡◌, ◌⊎◌};
 ghost use Rattle.basics.specs.Settings.{sections_fit};
+ghost use Rattle.pair.specs.Marks.{mark_told};
 ghost use Rattle.pair.specs.Request.{requests, carries};
-ghost use Rattle.pair.specs.Table.{value_of, number_for, value_in, listed_in, usable_in, table_of};
+ghost use Rattle.pair.specs.Table.{value_of, value_told, number_for, value_in, listed_in, usable_in, table_of};
 
 use crate::Value;
+use crate::mark::Mark;
 
 // A number has four hexadecimal digits: rank, least n, greatest n, mark. Sixteen of them are a request code, one for each
 // channel from 0 up; the first names the request.
@@ -46,17 +48,19 @@ const NUMBERS: [u16; 256] = [
 
 // The whole table. The compiler lays a constant out anew wherever one is used, so whoever looks at several K1 values takes
 // it once.
+#[tactic(auto, unfolding(crate::specs::Table::table_of, crate::specs::Table::number_for, crate::specs::Request::listed, crate::specs::Request::carries, crate::specs::Request::rank_in))]
 pub fn numbers() -> [u16; 256]
     ensures { result ≡ table_of requests }
 {
     NUMBERS
 }
 
+#[tactic(auto, using(crate::proofs::Looking::number_at))]
 pub(crate) fn number_for(k1: u8) -> u16
     ensures { result ≡ number_for requests k1 }
 {
     let table = numbers();
-    table[k1 as usize]
+    table[usize::from(k1)]
 }
 
 pub fn rank_in(number: u16) -> u8
@@ -76,37 +80,43 @@ pub(crate) fn listed_in(number: u16) -> bool
 pub fn usable_in(number: u16, n: u8) -> bool
     ensures { result ≡ usable_in number n }
 {
-    let sections = n as u16;
+    let sections = u16::from(n);
     (number % 4096 <= sections * 256 + 255) & (sections * 16 <= number % 256)
 }
 
-fn value_in(number: u16) -> Value
-    ensures { result ≡ value_in number }
-{
-    Value {
-        rank: rank_in(number),
-        least: (number / 256 % 16) as u8,
-        greatest: (number / 16 % 16) as u8,
-        mark: (number % 16) as u8,
-    }
-}
-
-pub fn value_of(k1: u8) -> Value
-    ensures { result ≡ value_of requests k1 }
-{
-    value_in(number_for(k1))
-}
-
 // Whether the code carries the channel. Neither need fit into its half of a K1.
+#[tactic(auto, using(crate::proofs::Looking::code_beyond, crate::proofs::Looking::channel_beyond, crate::proofs::Looking::carried_looked))]
 pub(crate) fn carried(n: u8, code: u8, channel: u8) -> bool
     requires { sections_fit n ≡ true }
     ensures { result ≡ carries requests n code channel }
 {
-    if 16 <= code {
-        return false;
-    }
-    if 16 <= channel {
+    if code >= 16 || channel >= 16 {
         return false;
     }
     usable_in(number_for(code * 16 + channel), n)
+}
+
+// The table has no other marks.
+fn marked_in(number: u16) -> Option<Mark>
+    requires { ((value_in number).mark ≡ 3) ⊎ ((value_in number).mark ≡ 4) ⊎ ((value_in number).mark ≡ 0) }
+    ensures { mark_told result ≡ (value_in number).mark }
+{
+    match number % 16 {
+        3 => Some(Mark::Code),
+        4 => Some(Mark::Channel),
+        _ => None,
+    }
+}
+
+#[tactic(auto, using(crate::proofs::Looking::number_kinds, crate::proofs::Looking::value_back))]
+pub fn value_of(k1: u8) -> Value
+    ensures { value_told result ≡ value_of requests k1 }
+{
+    let number = number_for(k1);
+    Value {
+        rank: rank_in(number),
+        least: (number / 256 % 16) as u8,
+        greatest: (number / 16 % 16) as u8,
+        mark: marked_in(number),
+    }
 }
