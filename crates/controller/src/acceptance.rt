@@ -7,18 +7,17 @@ ghost use Rattle.std.specs.Prelude.{true, ◌≡◌};
 use crate::asked::asked;
 use crate::numbered::Received;
 use crate::{Accepted, Controller};
+use basics::refusal::Refusal;
 use pair::{Decoded, decode_looked};
 use request::Request;
 
 // The mark of a pair that was decoded, 0 where it has none.
-pub(crate) fn mark_in(d: Decoded) -> u8
+pub(crate) fn mark_in(d: Result<Decoded, Refusal>) -> u8
     ensures { result ≡ (decoding_told d).mark }
 {
     match d {
-        Decoded::Usable(_) => 0,
-        Decoded::Marked(m) => m,
-        Decoded::Alarm => 0,
-        Decoded::Refused(_) => 0,
+        Ok(Decoded::Marked(m)) => m.number(),
+        _ => 0,
     }
 }
 
@@ -42,7 +41,7 @@ pub(crate) fn accepting(s: Controller, failed: bool, received: Received) -> Acce
         return accepted(Controller::IDLE_K1, Controller::IDLE_K2, 0);
     }
     let d = decode_looked(received.number, s.n, received.k1, received.k2);
-    let Decoded::Usable(p) = d else {
+    let Ok(Decoded::Usable(p)) = d else {
         return accepted(s.k1, s.k2, mark_in(d));
     };
     Accepted {

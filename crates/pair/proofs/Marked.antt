@@ -1,6 +1,5 @@
 -- Laws of the marks' numbers: a number names one mark, and none has the number 0.
 use mathlib.Core.Path.{◌≡◌, refl, sym, ap, ◌∙◌}
-use Prim.Native.Nat.{ℕ}
 use native.Mathlib.Omega.{arith}
 use Rattle.std.specs.Prelude.{Option, Some, None}
 use Rattle.pair.specs.Marks.{mark_number, mark_with, mark_told, mark_case}

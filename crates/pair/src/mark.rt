@@ -1,6 +1,6 @@
 // The marks of a pair that is not usable; and whether a K2 is usable, and whether it is an alarm, for callers that ask no
 // more than that.
-ghost use Rattle.pair.specs.Marks.{mark_number, second_usable, alarm_in};
+ghost use Rattle.pair.specs.Marks.{mark_number, mark_told, second_usable, alarm_in};
 ghost use Rattle.std.specs.Prelude.{◌≡◌};
 
 // What is wrong with a pair, in the order of checking (02, c).
@@ -24,6 +24,13 @@ impl Mark {
         ensures { result ≡ mark_number self }
     {
         self as u8
+    }
+
+    /// The number of what may be a mark, 0 where there is none.
+    pub fn number_or_0(mark: Option<Mark>) -> u8
+        ensures { result ≡ mark_told mark }
+    {
+        mark.map_or(0, |m| m.number())
     }
 }
 

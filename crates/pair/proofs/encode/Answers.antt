@@ -1,7 +1,6 @@
 -- What is written fits a byte, since each part has room in its four bits.
-use Rattle.std.proofs.Common.{◌≡◌, true, arith, rules}
+use Rattle.std.proofs.Common.{arith, rules}
 use Rattle.basics.proofs.Tests.{tests}
-use Rattle.pair.specs.Coder.{encodable}
 use Rattle.pair.proofs.Coding.{FourBits, four_bits}
 use Rattle.pair.proofs.encode.Goals as goal
 
