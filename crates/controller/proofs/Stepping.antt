@@ -1,10 +1,10 @@
 -- Laws of a step's answer: its numbers call for it.
-use Rattle.std.proofs.Common.{◌≡◌, refl, ap, ◌∙◌, sym, Result, Ok, Err}
+use Rattle.std.proofs.Common.{◌≡◌, Result, Ok, Err}
 use borrow.Author.Tests.{ne_eqb}
 use Rattle.basics.specs.Refusal.{refusal_number}
 use Rattle.basics.proofs.Refusals.{number_some, with_number}
 use Rattle.request.proofs.Fates.{fate_back}
-use Rattle.controller.specs.Step.{Stepped, step_told, step_case}
+use Rattle.controller.specs.Step.{step_told, step_case}
 use Rattle.controller.specs.declared.Outcome.{Outcome}
 use Rattle.controller.specs.declared.RefusedStep.{RefusedStep}
 

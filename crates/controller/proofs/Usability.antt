@@ -3,25 +3,23 @@ use mathlib.Core.Path.{◌≡◌, refl, sym, ◌∙◌}
 use mathlib.Core.Bool.{Bool, true, false, false≢true}
 use Prim.Native.Nat.{ℕ}
 use lib.Dec.{leb-zero}
-use Rattle.std.specs.Prelude.{Result, Ok}
 use Rattle.basics.specs.Settings.{sections_fit}
-use Rattle.basics.specs.declared.refusal.Refusal.{Refusal}
 use Rattle.pair.specs.Request.{requests, carries}
 use Rattle.pair.specs.Marks.{code_of, channel_of, usable}
-use Rattle.pair.specs.Coder.{decoding_case, pair_of, decoding}
+use Rattle.pair.specs.Coder.{decoded_case, pair_of, decoding}
 use Rattle.pair.specs.declared.Decoded.{Decoded}
 use Rattle.pair.specs.declared.Pair.{Pair}
 use Rattle.pair.specs.declared.Decoded.TheVariants as decoded
-use Rattle.pair.proofs.Coding.{nothing_found, fit_decoding, usable_parts, parts_usable}
+use Rattle.pair.proofs.Coding.{nothing_found, fit_decoded, usable_parts, parts_usable}
 use Rattle.controller.specs.Settings.{idle_k2}
 
 -- an answer that is not the usable case comes of a pair that is not usable
-pub other_unusable : (n k1 k2 : ℕ) (d : Result Decoded Refusal) → sections_fit n ≡ true → d ≡ decoding_case (decoding n k1 k2)
-    → ((p : Pair) → d ≡ Ok (decoded.Usable p) → ⊥) → usable n k1 k2 ≡ false
+pub other_unusable : (n k1 k2 : ℕ) (d : Decoded) → sections_fit n ≡ true → d ≡ decoded_case (decoding n k1 k2)
+    → ((p : Pair) → d ≡ decoded.Usable p → ⊥) → usable n k1 k2 ≡ false
 other_unusable n k1 k2 d fits e other = go (usable n k1 k2) refl
   where
     go : (t : Bool) → usable n k1 k2 ≡ t → usable n k1 k2 ≡ false
-    go true t = absurd (other (pair_of k1 k2) (e ∙ fit_decoding n k1 k2 fits (nothing_found n k1 k2 t)))
+    go true t = absurd (other (pair_of k1 k2) (e ∙ fit_decoded n k1 k2 fits (nothing_found n k1 k2 t)))
     go false t = t
 
 -- with the idle K2, a pair is usable where its K1 is in the table

@@ -1,22 +1,21 @@
 // The accepted pair (01, 'One step', rule 1).
 ghost use Rattle.basics.specs.Settings.{sections_fit};
 ghost use Rattle.controller.specs.Rules.{accepted, accepting};
-ghost use Rattle.pair.specs.Coder.{decoding_told};
+ghost use Rattle.pair.specs.Coder.{decoded_told};
 ghost use Rattle.std.specs.Prelude.{true, ◌≡◌};
 
 use crate::asked::asked;
 use crate::numbered::Received;
 use crate::{Accepted, Controller};
-use basics::refusal::Refusal;
-use pair::{Decoded, decode_looked};
+use pair::{Decoded, found};
 use request::Request;
 
 // The mark of a pair that was decoded, 0 where it has none.
-pub(crate) fn mark_in(d: Result<Decoded, Refusal>) -> u8
-    ensures { result ≡ (decoding_told d).mark }
+pub(crate) fn mark_in(d: Decoded) -> u8
+    ensures { result ≡ (decoded_told d).mark }
 {
     match d {
-        Ok(Decoded::Marked(m)) => m.number(),
+        Decoded::Marked(m) => m.number(),
         _ => 0,
     }
 }
@@ -40,8 +39,8 @@ pub(crate) fn accepting(s: Controller, failed: bool, received: Received) -> Acce
     if failed {
         return accepted(Controller::IDLE_K1, Controller::IDLE_K2, 0);
     }
-    let d = decode_looked(received.number, s.n, received.k1, received.k2);
-    let Ok(Decoded::Usable(p)) = d else {
+    let d = found(received.number, s.n, received.k1, received.k2);
+    let Decoded::Usable(p) = d else {
         return accepted(s.k1, s.k2, mark_in(d));
     };
     Accepted {

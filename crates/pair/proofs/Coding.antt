@@ -19,7 +19,8 @@ use Rattle.pair.specs.Marks.{code_of, channel_of, bridged_of, bit5, line_bits, m
 use Rattle.pair.specs.Marks.{Finding, nothing, alarmed, marked, checks_with, pair_checks, finding, is_nothing, is_alarm, mark_in}
 use Rattle.pair.specs.Marks.{usable, alarm, mark, second_usable, alarm_in}
 use Rattle.pair.specs.Table.{number_for, listed_in, usable_in}
-use Rattle.pair.specs.Coder.{decoding_told, decoding_case, pair_of, decoding_of, decoding_by, decoding, decoding_looked}
+use Rattle.pair.specs.Coder.{decoded_told, decoded_case, decoding_told, decoding_case}
+use Rattle.pair.specs.Coder.{pair_of, decoding_of, decoding_by, decoding, decoding_looked, found_in}
 use Rattle.pair.specs.Coder.{line_of, encoding_told, encoding_case, encodable, encoding}
 use Rattle.basics.specs.declared.refusal.Refusal.{Refusal}
 use Rattle.basics.specs.declared.refusal.Refusal.TheVariants as refusal
@@ -53,17 +54,28 @@ named_some : (m : ℕ) → unnamed (marked m) ≡ false → eqb m 0 ≡ false
 named_some m h = ne_eqb m 0 (λ e. mark_some (mark_with m) (named_mark m h ∙ e))
 
 told_back : (k1 k2 : ℕ) (f : Finding) → unnamed f ≡ false
-    → decoding_told (decoding_case (decoding_of k1 k2 f)) ≡ decoding_of k1 k2 f
+    → decoded_told (decoded_case (decoding_of k1 k2 f)) ≡ decoding_of k1 k2 f
 told_back k1 k2 nothing h = refl
 told_back k1 k2 alarmed h = refl
 told_back k1 k2 (marked m) h = rw (named_some m h, named_mark m h)
+
+pub found_by : (number n k1 k2 : ℕ) {r : Decoded} → r ≡ decoded_case (decoding_of k1 k2 (found_in number n k2))
+    → Answers decoded_told decoded_case (decoding_of k1 k2 (found_in number n k2)) r
+found_by number n k1 k2 e =
+    answers (told_back k1 k2 (found_in number n k2) (checks_named (listed_in number) (usable_in number n) n k2)) e
+
+-- what is found is no refusal
+pub found_case : (k1 k2 : ℕ) (f : Finding) → decoding_case (decoding_of k1 k2 f) ≡ Ok (decoded_case (decoding_of k1 k2 f))
+found_case k1 k2 nothing = refl
+found_case k1 k2 alarmed = refl
+found_case k1 k2 (marked m) = refl
 
 decoding_whole : (n k1 k2 : ℕ) (f : Finding) → unnamed f ≡ false
     → decoding_told (decoding_case (decoding_by n k1 k2 f)) ≡ decoding_by n k1 k2 f
 decoding_whole n k1 k2 f named = go (sections_fit n) refl
   where
     go : (t : Bool) → sections_fit n ≡ t → decoding_told (decoding_case (decoding_by n k1 k2 f)) ≡ decoding_by n k1 k2 f
-    go true fits = rw fits (told_back k1 k2 f named)
+    go true fits = rw (fits, found_case k1 k2 f) (told_back k1 k2 f named)
     go false fits = rw fits
 
 pub looked_by : (number n k1 k2 : ℕ) {r : Result Decoded Refusal} → r ≡ decoding_case (decoding_looked number n k1 k2)
@@ -71,8 +83,7 @@ pub looked_by : (number n k1 k2 : ℕ) {r : Result Decoded Refusal} → r ≡ de
 unfolding decoding_looked
 looked_by number n k1 k2 e =
     answers
-    (decoding_whole n k1 k2 (first_or nothing (checks_with (listed_in number) (usable_in number n) n k2))
-    (checks_named (listed_in number) (usable_in number n) n k2)) e
+    (decoding_whole n k1 k2 (found_in number n k2) (checks_named (listed_in number) (usable_in number n) n k2)) e
 
 encoding_whole : (n : ℕ) (p : Pair) → encoding_told (encoding_case (encoding n p)) ≡ encoding n p
 unfolding encoding
@@ -119,6 +130,11 @@ pub fit_decoding : (n k1 k2 : ℕ) {f : Finding} → sections_fit n ≡ true →
 unfolding decoding
 fit_decoding n k1 k2 = fit_by n k1 k2
 
+pub fit_decoded : (n k1 k2 : ℕ) {f : Finding} → sections_fit n ≡ true → finding n k1 k2 ≡ f
+    → decoded_case (decoding n k1 k2) ≡ decoded_case (decoding_of k1 k2 f)
+unfolding decoding
+fit_decoded n k1 k2 fits e = rw (fits, e)
+
 pub unfit_by : (n k1 k2 : ℕ) (found : Finding) → sections_fit n ≡ false
     → decoding_case (decoding_by n k1 k2 found) ≡ Err refusal.Sections
 unfit_by n k1 k2 found other = rw other
@@ -131,6 +147,17 @@ decoding_looked_lem n k1 k2 = go (sections_fit n) refl
     go : (t : Bool) → sections_fit n ≡ t → decoding_looked (number_for requests k1) n k1 k2 ≡ decoding n k1 k2
     go true fits = rw (listed_looked requests k1, usable_looked requests k1 n fits)
     go false fits = rw fits
+
+-- within 1..14 what is found so is what it decodes to
+pub found_fit : (n k1 k2 : ℕ) → sections_fit n ≡ true
+    → decoding_of k1 k2 (found_in (number_for requests k1) n k2) ≡ decoding n k1 k2
+unfolding decoding finding
+found_fit n k1 k2 fits = rw (fits, listed_looked requests k1, usable_looked requests k1 n fits)
+
+pub fit_case : (n k1 k2 : ℕ) → sections_fit n ≡ true
+    → decoding_case (decoding n k1 k2) ≡ Ok (decoded_case (decoding n k1 k2))
+unfolding decoding
+fit_case n k1 k2 fits = rw fits (found_case k1 k2 (finding n k1 k2))
 
 -- and has its mark and its alarm
 pub fit_found : (n k1 k2 : ℕ) → sections_fit n ≡ true

@@ -82,9 +82,11 @@ unfoldable pub decoding : ℕ → ℕ → ℕ → Decoding
 decoding n k1 k2 = decoding_by n k1 k2 (finding n k1 k2)
 
 -- the same, where K1 is read off a number of the table
+abbrev pub found_in : ℕ → ℕ → ℕ → Finding
+found_in number n k2 = first_or nothing (checks_with (listed_in number) (usable_in number n) n k2)
+
 unfoldable pub decoding_looked : ℕ → ℕ → ℕ → ℕ → Decoding
-decoding_looked number n k1 k2 =
-    decoding_by n k1 k2 (first_or nothing (checks_with (listed_in number) (usable_in number n) n k2))
+decoding_looked number n k1 k2 = decoding_by n k1 k2 (found_in number n k2)
 
 -- the line bits of a record: 110 for a remote defect
 abbrev pub line_of : Bool → ℕ

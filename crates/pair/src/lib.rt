@@ -6,7 +6,8 @@ pub mod request;
 pub mod table;
 
 ghost use Rattle.basics.specs.Answer.{Answers};
-ghost use Rattle.pair.specs.Coder.{decoding_told, decoding_case, decoding, decoding_looked};
+ghost use Rattle.pair.specs.Coder.{decoded_told, decoded_case, decoding_told, decoding_case};
+ghost use Rattle.pair.specs.Coder.{decoding, decoding_of, decoding_looked, found_in};
 ghost use Rattle.pair.specs.Coder.{line_of, encoding_told, encoding_case, encoding};
 ghost use Rattle.std.specs.Prelude.{◌≡◌};
 
@@ -49,39 +50,47 @@ pub fn decode(n: u8, k1: u8, k2: u8) -> Result<Decoded, Refusal>
     decode_looked(number_for(k1), n, k1, k2)
 }
 
-// The paper's order of checking; K1 has been looked up.
-#[tactic(auto, using(crate::proofs::Coding::looked_by), unfolding(crate::specs::Coder::decoding_looked))]
+// As `decode`; K1 has been looked up.
+#[tactic(auto, using(crate::proofs::Coding::looked_by, crate::proofs::Coding::found_case), unfolding(crate::specs::Coder::decoding_looked))]
 pub fn decode_looked(number: u16, n: u8, k1: u8, k2: u8) -> Result<Decoded, Refusal>
     ensures { Answers decoding_told decoding_case (decoding_looked number n k1 k2) result }
 {
     if !sections_fit(n) {
         return Err(Refusal::Sections);
     }
+    Ok(found(number, n, k1, k2))
+}
+
+// What is found in a pair, in the paper's order of checking, for a caller that knows n to be 1 to 14.
+#[tactic(auto, using(crate::proofs::Coding::found_by))]
+pub fn found(number: u16, n: u8, k1: u8, k2: u8) -> Decoded
+    ensures { Answers decoded_told decoded_case (decoding_of k1 k2 (found_in number n k2)) result }
+{
     let line = k2 % 8;
     if k2 / 8 % 2 == 0 {
-        return Ok(Decoded::Marked(Mark::Architecture));
+        return Decoded::Marked(Mark::Architecture);
     }
     if line == 0b111 {
-        return Ok(Decoded::Alarm);
+        return Decoded::Alarm;
     }
     if line != 0b000 && line != 0b110 {
-        return Ok(Decoded::Marked(Mark::LineBits));
+        return Decoded::Marked(Mark::LineBits);
     }
     if !listed_in(number) {
-        return Ok(Decoded::Marked(Mark::Code));
+        return Decoded::Marked(Mark::Code);
     }
     if !usable_in(number, n) {
-        return Ok(Decoded::Marked(Mark::Channel));
+        return Decoded::Marked(Mark::Channel);
     }
     if n < k2 / 16 {
-        return Ok(Decoded::Marked(Mark::Bridged));
+        return Decoded::Marked(Mark::Bridged);
     }
-    Ok(Decoded::Usable(Pair {
+    Decoded::Usable(Pair {
         code: k1 / 16,
         channel: k1 % 16,
         bridged: k2 / 16,
         remote: line == 0b110,
-    }))
+    })
 }
 
 fn line_bits(remote: bool) -> u8

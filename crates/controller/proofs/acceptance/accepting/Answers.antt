@@ -1,8 +1,8 @@
 -- The decoder's answer is the usable record, or comes of a pair that is not usable.
-use Rattle.std.proofs.Common.{sym, ◌∙◌}
+use Rattle.std.proofs.Common.{sym, ap, ◌∙◌, Ok}
 use Rattle.basics.specs.Answer.{Answers}
-use Rattle.pair.specs.Coder.{decoding_told, decoding_case, decoding}
-use Rattle.pair.proofs.Coding.{fit_found, usable_facts, parts_usable, decoding_looked_lem}
+use Rattle.pair.specs.Coder.{decoded_told, decoded_case, decoding}
+use Rattle.pair.proofs.Coding.{fit_found, usable_facts, parts_usable, found_fit, fit_case}
 use Rattle.controller.specs.Rules.{accepting}
 use Rattle.controller.proofs.Usability.{other_unusable}
 use Rattle.controller.proofs.acceptance.accepting.Goals as goal
@@ -17,22 +17,22 @@ unfolding accepting
 returns-in_default c =
     let a = c.args in
     let fits = c.requires in
-    let d : Answers decoding_told decoding_case (decoding a.s.n a.received.k1 a.received.k2) c.decode_looked-d.result =
-    rw (← decoding_looked_lem a.s.n a.received.k1 a.received.k2, ← a.received.number_is) c.decode_looked-d.ensures in
+    let d : Answers decoded_told decoded_case (decoding a.s.n a.received.k1 a.received.k2) c.found-d.result =
+    rw (← found_fit a.s.n a.received.k1 a.received.k2 c.requires, ← a.received.number_is) c.found-d.ensures in
     rw (
       c.accepted-in_default.ensures,
       c.mark_in.ensures,
       d.numbers,
       (fit_found a.s.n a.received.k1 a.received.k2 fits).0,
       c.if-failed.false,
-      other_unusable a.s.n a.received.k1 a.received.k2 c.decode_looked-d.result fits d.decided c.in_default.not-Usable,
+      other_unusable a.s.n a.received.k1 a.received.k2 c.found-d.result fits d.decided c.in_default.not-Usable,
     )
 
 pub returns : goal.returns
 unfolding accepting
 returns c =
     let a = c.args in
-    let d : Answers decoding_told decoding_case (decoding a.s.n a.received.k1 a.received.k2) c.decode_looked-d.result =
-    rw (← decoding_looked_lem a.s.n a.received.k1 a.received.k2, ← a.received.number_is) c.decode_looked-d.ensures in
-    let facts = usable_facts a.s.n a.received.k1 a.received.k2 c.in-Usable.p (sym d.decided ∙ c.in-Usable.is) in
+    let d : Answers decoded_told decoded_case (decoding a.s.n a.received.k1 a.received.k2) c.found-d.result =
+    rw (← found_fit a.s.n a.received.k1 a.received.k2 c.requires, ← a.received.number_is) c.found-d.ensures in
+    let facts = usable_facts a.s.n a.received.k1 a.received.k2 c.in-Usable.p (fit_case a.s.n a.received.k1 a.received.k2 c.requires ∙ ap Ok (sym d.decided ∙ c.in-Usable.is)) in
     rw (facts.1, c.if-failed.false, parts_usable a.s.n a.received.k1 a.received.k2 facts.0)
