@@ -10,17 +10,13 @@ use native.Mathlib.Numerals.{add-one}
 use native.Mathlib.Omega.{arith}
 use lib.ListN.{length, get_or, length-append, get_or-append}
 use lib.Seq.{get_or-append_seam}
+use Rattle.std.proofs.lemmas.Bool.{cases_lt}
 use Rattle.std.specs.Prelude.{if◌then◌else◌}
 use Rattle.switches.specs.Changes.{below◌such_that◌, Stands}
 
 -- what the next number adds
 abbrev pub tail : Bool → ℕ → List ℕ
 tail t k = if t then k ∷ [] else []
-
-pub lt_or_le : (a b : ℕ) → (a < b) ⊎ (b ≤ a)
-lt_or_le a zero = inr zero-le
-lt_or_le zero (suc b) = inl (omega arith)
-lt_or_le (suc a) (suc b) = ⊎_elim (λ (h : a < b). inl (omega arith)) (λ (h : b ≤ a). inr (omega arith)) (lt_or_le a b)
 
 -- a place of a list with a tail is one of the list, or the one behind it
 split_place : (list : List ℕ) (t : Bool) (k i : ℕ) → i < length (list ++ tail t k)
@@ -35,7 +31,7 @@ split_place list true k i h =
     (λ (h' : length list ≤ i).
     let e : i ≡ length list = omega (arith, length-append list (k ∷ [])) in
     inr (e, refl, ap (λ (j : ℕ). get_or (list ++ (k ∷ [])) j 0) e ∙ get_or-append_seam list k [] 0))
-    (lt_or_le i (length list))
+    (cases_lt i (length list))
 
 module _ (test : ℕ → Bool) where
   pub below_next : (k : ℕ) → (below (k + 1) such_that test) ≡ (below k such_that test) ++ tail (test k) k
@@ -49,7 +45,7 @@ module _ (test : ℕ → Bool) where
       let e : k ≡ 0 = omega arith in
       rw e (omega arith)
   below_steps k (suc m) h =
-      ⊎_elim (λ (h' : k < suc m). later (test m) (omega arith) (below_steps k m (omega arith))) here (lt_or_le k (suc m))
+      ⊎_elim (λ (h' : k < suc m). later (test m) (omega arith) (below_steps k m (omega arith))) here (cases_lt k (suc m))
     where
       later : (t : Bool) → k ≤ m → length (below m such_that test) ≤ length (below k such_that test) + (m - k)
           → length ((below m such_that test) ++ tail t m) ≤ length (below k such_that test) + (suc m - k)
@@ -93,7 +89,7 @@ module _ (test : ℕ → Bool) where
         get_or-append list (tail (test k) k) 0 s.0 s.1 ∙ s.2,
       ))
       (λ (h' : k ≤ x). last (omega arith))
-      (lt_or_le x k)
+      (cases_lt x k)
     where
       last : x ≡ k → Stands x ((below k such_that test) ++ tail (test k) k)
       last e =
@@ -135,7 +131,7 @@ module _ (test : ℕ → Bool) where
   below_behind k zero h =
       let e : k ≡ 0 = omega arith in
       record { rest = []; joined = rw e; above = λ i none. absurd (not-suc-le-zero none) }
-  below_behind k (suc m) h = ⊎_elim (λ (h' : k < suc m). later (omega arith) (below_behind k m (omega arith))) here (lt_or_le k (suc m))
+  below_behind k (suc m) h = ⊎_elim (λ (h' : k < suc m). later (omega arith) (below_behind k m (omega arith))) here (cases_lt k (suc m))
     where
       later : k ≤ m → Behind k m → Behind k (suc m)
       later h' b =

@@ -5,48 +5,68 @@ use mathlib.Core.List.{List, [], ◌∷◌}
 use Prim.Native.Nat.{ℕ, ◌+◌, ◌≤◌}
 use native.Mathlib.Omega.{arith}
 use lib.Dec.{ltb}
-use lib.ListN.{length, take}
-use lib.Seq.{length-take-le}
+use lib.ListN.{length, take, drop, get_or}
 use borrow.Author.Tests.{ne_eqb, ltb-false}
+use Rattle.std.specs.Prelude.{Result, Ok, Err}
+use Rattle.std.proofs.lemmas.List.{take-map}
+use Rattle.std.proofs.lemmas.Bool.Decides.{nat_tests}
+use lib.Seq.{sets}
 use Rattle.basics.specs.Answer.{Answers}
 use Rattle.basics.specs.First.{◌when◌, first_of}
+use Rattle.basics.specs.Refusal.{refusal_number}
+use Rattle.basics.specs.declared.refusal.Refusal.{Refusal}
+use Rattle.basics.specs.declared.refusal.Refusal.TheVariants.{SwitchesOther, SwitchesRoom}
 use Rattle.basics.proofs.First.{first_before, first_behind}
+use Rattle.basics.proofs.Refusals.{number_some}
 use Rattle.switches.specs.Changes.{sent_in, changes}
 use Rattle.switches.specs.Extend.{steps_faults, lists, extend_refusal, extending_told, extending_case, extending, extended}
-use Rattle.switches.specs.Walk.{first_changes, Fits, Put}
-use Rattle.switches.specs.declared.Extending.{Extending}
-use Rattle.switches.specs.declared.Extending.TheVariants as answer
-use Rattle.switches.proofs.Checking.{lists_equal}
-use Rattle.switches.proofs.Counting.{add_less}
-use Rattle.switches.proofs.Refusals.{steps_walk}
+use Rattle.switches.specs.Walk.{sent_of, first_changes, Rows, Fits, Put}
+use Rattle.switches.proofs.Listed.{listed_count}
+use Rattle.switches.proofs.Refusals.{refused_is}
+use Rattle.switches.proofs.Walking.{sent_many, first_few}
+
+-- the first rows send what the first steps do
+front_sent : {bytes : List ℕ} {steps : ℕ} {rows : List (List ℕ)} → Rows bytes steps rows
+    → sent_of (take steps rows) ≡ take steps (sent_in bytes)
+front_sent {steps = steps} {rows} r =
+    sym (take-map (λ (l : List ℕ). get_or l 2 0) steps rows) ∙ ap (take steps) r.sent
+
+add_less : (base a b : ℕ) → ltb a b ≡ ltb (base + a) (base + b)
+add_less base a b = grind (arith, nat_tests)
+
+pub put_few : {bytes : List ℕ} {steps : ℕ} {rows : List (List ℕ)} {known number : ℕ} {table after : List ℕ}
+    → Rows bytes steps rows → Put rows known number table after → number ≤ 16384
+put_few {rows = rows} r put =
+    let many = put.count in
+    let small = r.small in
+    omega (arith, first_few rows (length (sent_of rows)), sent_many rows)
 
 module _ (bytes : List ℕ) (listed count : ℕ) (table : List ℕ) where
   -- what a call promises
-  abbrev pub Promised : Extending → List ℕ → Type 0
+  abbrev pub Promised : Result ℕ Refusal → List ℕ → Type 0
   Promised r after =
       Answers extending_told extending_case (extending bytes listed count table) r
       × (after ≡ extended bytes listed count table)
 
-  refused : (k : ℕ) → k ≡ extend_refusal bytes listed count table → (k ≡ 0 → ⊥) → Promised (answer.Refused k) table
+  refused : (e : Refusal) → refusal_number e ≡ extend_refusal bytes listed count table → Promised (Err e) table
   unfolding extending extended
-  refused k e some =
-      rw (← e, ne_eqb k 0 some)
-      (record { numbers = refl; decided = rw (ne_eqb k 0 some) }, refl)
+  refused e is =
+      rw (← is, ne_eqb (refusal_number e) 0 (number_some e))
+      (record { numbers = refl; decided = refused_is e 0 }, refl)
 
   -- refusals 8, 9, 13
-  pub steps_refused : (k : ℕ) → k ≡ first_of (steps_faults bytes listed) → (k ≡ 0 → ⊥) → Promised (answer.Refused k) table
+  pub steps_refused : (e : Refusal) → refusal_number e ≡ first_of (steps_faults bytes listed) → Promised (Err e) table
   unfolding extend_refusal
-  steps_refused k e some =
-      refused k
-      (e
+  steps_refused e is =
+      refused e
+      (is
       ∙ sym
       (first_before (steps_faults bytes listed)
       ((16 when not (lists table count (take listed (sent_in bytes))))
       ∷ (12 when ltb (length table) (length (changes (sent_in bytes))))
-      ∷ []) (λ z. some (e ∙ z))))
-      some
+      ∷ []) (λ none. number_some e (is ∙ none))))
 
-  module _ (none : first_of (steps_faults bytes listed) ≡ 0) where
+  module _ {rows : List (List ℕ)} (r : Rows bytes listed rows) (none : 0 ≡ first_of (steps_faults bytes listed)) where
     abbrev ours : Bool
     ours = lists table count (take listed (sent_in bytes))
 
@@ -55,58 +75,51 @@ module _ (bytes : List ℕ) (listed count : ℕ) (table : List ℕ) where
 
     behind : extend_refusal bytes listed count table ≡ first_of ((16 when not ours) ∷ (12 when short) ∷ [])
     unfolding extend_refusal
-    behind = first_behind (steps_faults bytes listed) ((16 when not ours) ∷ (12 when short) ∷ []) refl none
+    behind = first_behind (steps_faults bytes listed) ((16 when not ours) ∷ (12 when short) ∷ []) refl (sym none)
 
-    pub list_refused : ours ≡ false → Promised (answer.Refused 16) table
-    list_refused other = refused 16 (sym (behind ∙ rw other)) (λ e. omega arith)
+    module _ {answer : Bool} (is : answer ≡ lists table count (sent_of (take listed rows))) where
+      same : ours ≡ answer
+      same = ap (lists table count) (sym (front_sent r)) ∙ sym is
 
-    -- and so the table stays
-    pub list_refused_table : ours ≡ false → table ≡ extended bytes listed count table
-    list_refused_table other = (list_refused other).1
+      pub list_refused : answer ≡ false → Promised (Err SwitchesOther) table
+      list_refused other = refused SwitchesOther (sym (behind ∙ rw (same, other)))
 
-    module _ (theirs : ours ≡ true) where
-      equal : (count ≤ length table) × (take count table ≡ first_changes bytes listed)
-      equal = lists_equal bytes listed table count (steps_walk bytes listed none) theirs
+      module _ (theirs : answer ≡ true) where
+        counts : count ≡ length (first_changes (sent_in bytes) listed)
+        counts =
+            listed_count (sent_in bytes) listed table count (omega (arith, sent_many rows, ap length r.sent, r.inside))
+            (same ∙ theirs)
 
-      pub counts : count ≡ length (first_changes bytes listed)
-      counts = sym (length-take-le count table equal.0) ∙ ap length equal.1
+        module _ {more : Bool}
+            (m : more ≡ ltb (length (first_changes (sent_of rows) listed) + length table) (count + length (changes (sent_of rows)))) where
+          -- the test of the room is whether the table is too short
+          more_is : short ≡ more
+          more_is =
+              add_less count (length table) (length (changes (sent_in bytes)))
+              ∙ ap (λ (k : ℕ). ltb (k + length table) (count + length (changes (sent_in bytes)))) counts
+              ∙ ap (λ (s : List ℕ). ltb (length (first_changes s listed) + length table) (count + length (changes s))) (sym r.sent)
+              ∙ sym m
 
-      -- the test of the room is whether the table is too short
-      more_is : (more : Bool)
-          → more ≡ ltb (length (first_changes bytes listed) + length table) (count + length (changes (sent_in bytes)))
-          → short ≡ more
-      more_is more e =
-          add_less count (length table) (length (changes (sent_in bytes)))
-          ∙ ap (λ (m : ℕ). ltb (m + length table) (count + length (changes (sent_in bytes)))) counts
-          ∙ sym e
+          pub room_refused : more ≡ true → Promised (Err SwitchesRoom) table
+          room_refused over = refused SwitchesRoom (sym (behind ∙ rw (same, theirs, more_is, over)))
 
-      pub room_refused : (more : Bool)
-          → more ≡ ltb (length (first_changes bytes listed) + length table) (count + length (changes (sent_in bytes)))
-          → more ≡ true → Promised (answer.Refused 12) table
-      room_refused more e is =
-          refused 12 (sym (behind ∙ rw (theirs, more_is more e ∙ is))) (λ z. omega arith)
+          module _ (enough : more ≡ false) where
+            pub fits : Fits rows listed count table
+            fits =
+                record {
+                  inside = r.inside;
+                  small = r.small;
+                  count = counts ∙ ap (λ (s : List ℕ). length (first_changes s listed)) (sym r.sent);
+                  room =
+                      let e = ap (λ (s : List ℕ). length (changes s)) r.sent in
+                      let fewer = ltb-false (length table) (length (changes (sent_in bytes))) (more_is ∙ enough) in
+                      omega arith;
+                }
 
-      pub room_refused_table : (more : Bool)
-          → more ≡ ltb (length (first_changes bytes listed) + length table) (count + length (changes (sent_in bytes)))
-          → more ≡ true → table ≡ extended bytes listed count table
-      room_refused_table more e is = (room_refused more e is).1
-
-      pub fits : (more : Bool)
-          → more ≡ ltb (length (first_changes bytes listed) + length table) (count + length (changes (sent_in bytes)))
-          → more ≡ false → Fits bytes listed count table
-      fits more e is =
-          record {
-            walks = steps_walk bytes listed none;
-            count = counts;
-            room = ltb-false (length table) (length (changes (sent_in bytes))) (more_is more e ∙ is);
-          }
-
-      pub all_put : (more : Bool)
-          → more ≡ ltb (length (first_changes bytes listed) + length table) (count + length (changes (sent_in bytes)))
-          → more ≡ false → (number : ℕ) (after : List ℕ) → Put bytes count number table after
-          → Promised (answer.Extended number) after
-      unfolding extending extended
-      all_put more e is number after put =
-          let taken : extend_refusal bytes listed count table ≡ 0 = behind ∙ rw (theirs, more_is more e ∙ is) in
-          rw (taken, ← put.count)
-          (record { numbers = refl; decided = refl }, put.content)
+            pub all_put : (number : ℕ) (after : List ℕ) → Put rows count number table after → Promised (Ok number) after
+            unfolding extending extended
+            all_put number after put =
+                let taken : extend_refusal bytes listed count table ≡ 0 = behind ∙ rw (same, theirs, more_is, enough) in
+                let many = put.count ∙ ap (λ (s : List ℕ). length (changes s)) r.sent in
+                let content = put.content ∙ ap (λ (s : List ℕ). sets table count (drop count (changes s))) r.sent in
+                rw (taken, ← many) (record { numbers = refl; decided = refl }, content)

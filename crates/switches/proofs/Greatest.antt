@@ -8,16 +8,16 @@ use native.Mathlib.Omega.{arith}
 use lib.Dec.{eqb}
 use lib.ListN.{length, get_or}
 use borrow.Author.Tests.{eqb-true, eqb-false, not-false}
+use Rattle.std.proofs.lemmas.Bool.{cases_lt}
 use Rattle.basics.specs.First.{◌when◌, first_of}
 use Rattle.basics.proofs.First.{none_both, none_exact}
 use Rattle.switches.specs.Changes.{below◌such_that◌, sent_in, changed, changes, Stands}
 use Rattle.switches.specs.Extend.{steps_faults, alike}
 use Rattle.switches.specs.LastChange.{look_faults, Looked, last_of, looking}
-use Rattle.switches.specs.Walk.{Walks}
 use Rattle.switches.proofs.Alike.{alike_equal}
-use Rattle.switches.proofs.Below.{below_in, below_all, below_rising, lt_or_le}
+use Rattle.switches.proofs.Below.{below_in, below_all, below_rising}
 use Rattle.switches.proofs.Looked.{last_none, last_some}
-use Rattle.switches.proofs.Refusals.{steps_walk}
+use Rattle.switches.proofs.Refusals.{Walks, steps_walk}
 
 module _ (bytes list : List ℕ) (step : ℕ) where
   abbrev test : ℕ → Bool
@@ -85,7 +85,7 @@ module _ (bytes list : List ℕ) (step : ℕ) where
               let inside = below-it.1 in
               let same : below-it.0 ≡ length passing - 1 = omega arith in
               omega (arith, ap (λ (k : ℕ). get_or passing k 0) same))
-              (lt_or_le below-it.0 (length passing - 1)),
+              (cases_lt below-it.0 (length passing - 1)),
         )
 
   -- the last change, as it is answered
@@ -107,7 +107,7 @@ module _ (bytes list : List ℕ) (step : ℕ) where
       (λ (h : length passing ≤ 0).
       let e = ap (λ (l : Looked). l.found) (t.answer ∙ last_none passing (omega arith)) in
       absurd (omega arith))
-      (lt_or_le 0 (length passing))
+      (cases_lt 0 (length passing))
 
   pub none_exactly : (looking bytes list step).refusal ≡ 0
       → ((looking bytes list step).found ≡ 0) ↔ ((d : ℕ) → Stands d list → d ≤ step → ⊥)
@@ -126,5 +126,5 @@ module _ (bytes list : List ℕ) (step : ℕ) where
             absurd (free (get_or passing (length passing - 1) 0) found.0 found.1))
             (λ (h : length passing ≤ 0).
             ap (λ (l : Looked). l.found) (t.answer ∙ last_none passing (omega arith)))
-            (lt_or_le 0 (length passing)),
+            (cases_lt 0 (length passing)),
       )

@@ -16,13 +16,12 @@ use Rattle.basics.proofs.First.{none_both, none_exact}
 use Rattle.basics.proofs.Bytes.{sets_joined}
 use Rattle.switches.specs.Changes.{below◌such_that◌, sent_in, changed, changes}
 use Rattle.switches.specs.Extend.{steps_faults, lists, extend_refusal, Grown, extending, extended}
-use Rattle.switches.specs.Walk.{first_changes, Walks}
+use Rattle.switches.specs.Walk.{first_changes}
 use Rattle.switches.proofs.Alike.{alike_self}
 use Rattle.switches.proofs.Below.{below_behind, Behind}
-use Rattle.switches.proofs.Checking.{lists_equal}
-use Rattle.switches.proofs.Refusals.{steps_walk}
+use Rattle.switches.proofs.Listed.{listed_equal, listed_count}
+use Rattle.switches.proofs.Refusals.{Walks, steps_walk, few_changes}
 use Rattle.switches.proofs.Sent.{sent_appended, changes_front}
-use Rattle.switches.proofs.Walking.{few_changes}
 
 module _ (bytes : List ℕ) (listed count : ℕ) (table : List ℕ) where
   abbrev all : List ℕ
@@ -73,11 +72,11 @@ module _ (bytes : List ℕ) (listed count : ℕ) (table : List ℕ) where
       go false z = (rw z, rw z)
 
   module _ (t : Taken) where
-    known : (count ≤ length table) × (take count table ≡ first_changes bytes listed)
-    known = lists_equal bytes listed table count t.walks t.ours
+    known : (count ≤ length table) × (take count table ≡ first_changes (sent_in bytes) listed)
+    known = listed_equal (sent_in bytes) listed table count t.walks.inside t.ours
 
-    counted : count ≡ length (first_changes bytes listed)
-    counted = sym (length-take-le count table known.0) ∙ ap length known.1
+    counted : count ≡ length (first_changes (sent_in bytes) listed)
+    counted = listed_count (sent_in bytes) listed table count t.walks.inside t.ours
 
     further : Behind (changed (sent_in bytes)) listed (length (sent_in bytes))
     further = below_behind (changed (sent_in bytes)) listed (length (sent_in bytes)) t.walks.inside
@@ -91,13 +90,13 @@ module _ (bytes : List ℕ) (listed count : ℕ) (table : List ℕ) where
         ∙ ap (λ (l : List ℕ). take count table ++ l)
         (sym
         (ap (drop count) further.joined
-        ∙ ap (λ (k : ℕ). drop k (first_changes bytes listed ++ rest)) counted
-        ∙ drop-append_seam (first_changes bytes listed) rest))
+        ∙ ap (λ (k : ℕ). drop k (first_changes (sent_in bytes) listed ++ rest)) counted
+        ∙ drop-append_seam (first_changes (sent_in bytes) listed) rest))
 
     pub few : count ≤ length all
     few =
         let k = counted in
-        omega (arith, ap length further.joined, length-append (first_changes bytes listed) further.rest)
+        omega (arith, ap length further.joined, length-append (first_changes (sent_in bytes) listed) further.rest)
 
     put_room : count + length (drop count all) ≤ length table
     put_room =

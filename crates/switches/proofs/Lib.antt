@@ -2,12 +2,12 @@
 mod Below
 mod Sent
 mod Alike
-mod Refusals
 mod Walking
+mod Refusals
 mod Counting
 mod Putting
 mod Checking
-mod Halving
+mod Listed
 mod Extended
 mod Looked
 pub mod Grown

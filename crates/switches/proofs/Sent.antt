@@ -1,15 +1,17 @@
--- The sent K1 of a capture's steps in its bytes; and what the first steps of a capture have of its changes.
+-- The sent K1 of a capture's steps; and what the first steps of a capture have of its changes.
 use mathlib.Core.Path.{◌≡◌, refl, sym, ap, ◌∙◌}
 use mathlib.Core.Bool.{true}
 use mathlib.Core.List.{List, [], ◌∷◌, ◌++◌}
-use Prim.Native.Nat.{ℕ, zero, suc, ◌+◌, ◌-◌, ◌*◌, ◌/◌, ◌%◌, ◌≤◌, ◌<◌}
+use Prim.Native.Nat.{ℕ, zero, suc, ◌+◌, ◌/◌, ◌%◌, ◌≤◌, ◌<◌}
 use native.Mathlib.Numerals.{add-one}
 use native.Mathlib.Omega.{arith}
 use lib.Dec.{eqb}
 use lib.ListN.{length, get_or, take}
 use lib.Seq.{get_or-take, length-take-le}
 use borrow.Author.Tests.{eqb-false, not-true, ne_eqb}
+use Rattle.std.specs.Simd.{first_chunks}
 use Rattle.switches.specs.Changes.{below◌such_that◌, sent_in, changed, changes, Stands}
+use Rattle.switches.specs.Walk.{sent_of}
 use Rattle.switches.proofs.Below.{below_in, below_all, below_rising, below_same}
 
 pub sent_long : (bytes : List ℕ) → length (sent_in bytes) ≡ length bytes / 4
@@ -20,16 +22,16 @@ sent_long (a ∷ b ∷ []) = omega arith
 sent_long (a ∷ []) = omega arith
 sent_long [] = omega arith
 
-pub sent_at : (bytes : List ℕ) (step : ℕ) → length bytes % 4 ≡ 0 → get_or (sent_in bytes) step 0 ≡ get_or bytes (4 * step + 2) 0
+-- the rows of four bytes send what the bytes do
+pub sent_rows : (bytes : List ℕ) → sent_of (first_chunks 4 (length bytes / 4) bytes) ≡ sent_in bytes
 unfolding sent_in
-sent_at (a ∷ b ∷ c ∷ d ∷ rest) zero whole = refl
-sent_at (a ∷ b ∷ c ∷ d ∷ rest) (suc step) whole =
-    let e : 4 * suc step + 2 ≡ suc (suc (suc (suc (4 * step + 2)))) = omega arith in
-    sent_at rest step (omega arith) ∙ ap (λ (k : ℕ). get_or (a ∷ b ∷ c ∷ d ∷ rest) k 0) (sym e)
-sent_at (a ∷ b ∷ c ∷ []) step whole = absurd (omega arith)
-sent_at (a ∷ b ∷ []) step whole = absurd (omega arith)
-sent_at (a ∷ []) step whole = absurd (omega arith)
-sent_at [] step whole = refl
+sent_rows (a ∷ b ∷ c ∷ d ∷ rest) =
+    let more : length (a ∷ b ∷ c ∷ d ∷ rest) / 4 ≡ suc (length rest / 4) = omega arith in
+    rw more (ap (λ (l : List ℕ). c ∷ l) (sent_rows rest))
+sent_rows (a ∷ b ∷ c ∷ []) = refl
+sent_rows (a ∷ b ∷ []) = refl
+sent_rows (a ∷ []) = refl
+sent_rows [] = refl
 
 pub sent_appended : (old more : List ℕ) → length old % 4 ≡ 0 → sent_in (old ++ more) ≡ sent_in old ++ sent_in more
 unfolding sent_in
@@ -43,11 +45,6 @@ sent_appended [] more whole = refl
 pub before_next : (sent : List ℕ) (step : ℕ) → get_or (0 ∷ sent) (step + 1) 0 ≡ get_or sent step 0
 before_next sent step = rw (add-one step)
 
-pub before_back : (sent : List ℕ) (step : ℕ) → (step ≡ 0 → ⊥) → get_or sent (step - 1) 0 ≡ get_or (0 ∷ sent) step 0
-before_back sent step some =
-    let e : step - 1 + 1 ≡ step = omega arith in
-    sym (before_next sent (step - 1)) ∙ ap (λ (k : ℕ). get_or (0 ∷ sent) k 0) e
-
 changed_front : (sent : List ℕ) (k step : ℕ) → step < k → changed (take k sent) step ≡ changed sent step
 unfolding changed
 changed_front sent k zero h = rw (get_or-take k sent 0 0 h)
@@ -60,13 +57,6 @@ pub changes_front : (sent : List ℕ) (k : ℕ) → k ≤ length sent
 changes_front sent k h =
     ap (λ (m : ℕ). below m such_that (changed (take k sent))) (length-take-le k sent h)
     ∙ below_same (changed (take k sent)) (changed sent) k (changed_front sent k)
-
--- the steps by the bytes
-pub in_steps : (bytes : List ℕ) (step : ℕ) → step < length bytes / 4 → step < length (sent_in bytes)
-in_steps bytes step h = omega (arith, sent_long bytes)
-
-pub past_steps : (bytes : List ℕ) (step : ℕ) → length bytes / 4 ≤ step → length (sent_in bytes) ≤ step
-past_steps bytes step h = omega (arith, sent_long bytes)
 
 -- a listed step is one whose sent K1 is another than the one before
 pub listed_change : (sent : List ℕ) (step : ℕ) → Stands step (changes sent)

@@ -1,12 +1,12 @@
 -- Extending a list of changes: refusals 8, 9, 13, 16, 12, in this order, the number of changes, and the table afterwards
 -- (02, e).
-use Rattle.std.specs.Prelude.{if◌then◌else◌, Bool, true, false, not, ◌&&◌, List, [], ◌∷◌, ◌++◌, ℕ, ltb, leb, eqb, length, take, drop}
+use Rattle.std.specs.Prelude.{if◌then◌else◌, Bool, true, false, not, ◌&&◌, Result, Ok, Err, List, [], ◌∷◌, ◌++◌, ℕ, ltb, leb, eqb, length, take, drop}
 use Rattle.std.proofs.lemmas.List.Edits.{sets}
 use Rattle.basics.specs.Capture.{size_faults}
 use Rattle.basics.specs.First.{Check, ◌when◌, first_of}
+use Rattle.basics.specs.Refusal.{refusal_number, refused_or}
+use Rattle.basics.specs.declared.refusal.Refusal.{Refusal}
 use Rattle.switches.specs.Changes.{sent_in, changes}
-use Rattle.switches.specs.declared.Extending.{Extending}
-use Rattle.switches.specs.declared.Extending.TheVariants as answer
 
 -- refusals 8, 9, and 13 for a capture with fewer steps than these
 abbrev pub steps_faults : List ℕ → ℕ → List Check
@@ -38,12 +38,12 @@ pub record Grown : Type 0 where
   pub refusal : ℕ
   pub number : ℕ
 
-abbrev pub extending_told : Extending → Grown
-extending_told (answer.Extended number) = record { refusal = 0; number = number }
-extending_told (answer.Refused refusal) = record { refusal = refusal; number = 0 }
+abbrev pub extending_told : Result ℕ Refusal → Grown
+extending_told (Ok number) = record { refusal = 0; number = number }
+extending_told (Err e) = record { refusal = refusal_number e; number = 0 }
 
-abbrev pub extending_case : Grown → Extending
-extending_case a = if eqb a.refusal 0 then answer.Extended a.number else answer.Refused a.refusal
+abbrev pub extending_case : Grown → Result ℕ Refusal
+extending_case a = refused_or a.refusal a.number
 
 unfoldable pub extending : List ℕ → ℕ → ℕ → List ℕ → Grown
 extending bytes listed count table =

@@ -1,10 +1,10 @@
 -- The last change at or before a step: refusals 8, 9, 13, 16, in this order, and the change, or none (02, e).
-use Rattle.std.specs.Prelude.{if◌then◌else◌, not, List, [], ◌∷◌, ◌++◌, ℕ, ◌+◌, eqb, length, get_or}
+use Rattle.std.specs.Prelude.{if◌then◌else◌, not, Option, None, Some, Result, Ok, Err, List, [], ◌∷◌, ◌++◌, ℕ, ◌+◌, eqb, length, get_or}
 use Rattle.basics.specs.First.{Check, ◌when◌, first_of}
+use Rattle.basics.specs.Refusal.{refusal_number, refused_or}
+use Rattle.basics.specs.declared.refusal.Refusal.{Refusal}
 use Rattle.switches.specs.Changes.{below◌such_that◌, sent_in, changed, changes}
 use Rattle.switches.specs.Extend.{steps_faults, alike}
-use Rattle.switches.specs.declared.Looking.{Looking}
-use Rattle.switches.specs.declared.Looking.TheVariants as answer
 
 -- a step is in the capture if there are more steps than its number; the list is that of the whole capture
 abbrev pub look_faults : List ℕ → List ℕ → ℕ → List Check
@@ -17,15 +17,13 @@ pub record Looked : Type 0 where
   pub found : ℕ
   pub step : ℕ
 
-abbrev pub looking_told : Looking → Looked
-looking_told (answer.Change step) = record { refusal = 0; found = 1; step = step }
-looking_told answer.NoChange = record { refusal = 0; found = 0; step = 0 }
-looking_told (answer.Refused refusal) = record { refusal = refusal; found = 0; step = 0 }
+abbrev pub looking_told : Result (Option ℕ) Refusal → Looked
+looking_told (Ok (Some step)) = record { refusal = 0; found = 1; step = step }
+looking_told (Ok None) = record { refusal = 0; found = 0; step = 0 }
+looking_told (Err e) = record { refusal = refusal_number e; found = 0; step = 0 }
 
-abbrev pub looking_case : Looked → Looking
-looking_case a =
-    if eqb a.refusal 0 then if eqb a.found 0 then answer.NoChange else answer.Change a.step
-    else answer.Refused a.refusal
+abbrev pub looking_case : Looked → Result (Option ℕ) Refusal
+looking_case a = refused_or a.refusal (if eqb a.found 0 then None else Some a.step)
 
 -- the last of some changes
 abbrev pub last_of : List ℕ → Looked

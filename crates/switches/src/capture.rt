@@ -1,47 +1,25 @@
-// A capture's steps and their sent K1 bytes (02, e).
-ghost use Rattle.std.specs.Prelude.{◌%◌, length, get_or, ◌∷◌, ◌≡◌};
+// A capture's steps, and where the sent K1 stands in them (02, e).
+ghost use Rattle.std.specs.Prelude.{IfOk, ◌≡◌};
 ghost use Rattle.basics.specs.First.{first_of};
-ghost use Rattle.switches.specs.Changes.{sent_in};
+ghost use Rattle.basics.specs.Refusal.{refusal_told};
 ghost use Rattle.switches.specs.Extend.{steps_faults};
+ghost use Rattle.switches.specs.Walk.{Rows};
 
 use basics::capture::size_refusal;
+use basics::refusal::Refusal;
 
-// Refusals 8, 9, and 13 for a capture with fewer steps than these.
-pub(crate) fn steps_refusal(capture: &[u8], steps: usize) -> u8
-    ensures { result ≡ first_of (steps_faults capture.now steps) }
-{
-    let size = size_refusal(capture.len());
-    let few = capture.len() / 4 < steps;
-    if size != 0 {
-        return size;
-    }
-    if few {
-        return 13;
-    }
-    0
-}
+// The third of a step's four bytes.
+pub(crate) const SENT: usize = 2;
 
-// 00 behind the last step.
-fn sent_at(capture: &[u8], step: usize) -> u8
-    requires { length capture.now % 4 ≡ 0 }
-    ensures { result ≡ get_or (sent_in capture.now) step 0 }
+// The steps of a capture; or refusals 8, 9, and 13 where they are fewer than these.
+pub(crate) fn rows_of(capture: &[u8], steps: usize) -> Result<&[[u8; 4]], Refusal>
+    ensures refusal { refusal_told result ≡ first_of (steps_faults capture.now steps) }
+    ensures rows { IfOk result (λ rows. Rows capture.now steps rows.now) }
 {
-    if step < capture.len() / 4 {
-        capture[4 * step + 2]
-    } else {
-        0
+    size_refusal(capture.len())?;
+    let (rows, _) = capture.as_chunks::<4>();
+    if rows.len() < steps {
+        return Err(Refusal::StepAbsent);
     }
-}
-
-// Before step 0 stands 00.
-#[tactic(auto, using(crate::proofs::Sent::before_back))]
-pub(crate) fn sent_before(capture: &[u8], step: usize) -> u8
-    requires { length capture.now % 4 ≡ 0 }
-    ensures { result ≡ get_or (0 ∷ sent_in capture.now) step 0 }
-{
-    if step == 0 {
-        0
-    } else {
-        sent_at(capture, step - 1)
-    }
+    Ok(rows)
 }

@@ -1,14 +1,19 @@
-use Rattle.std.proofs.Common.{arith}
-use Rattle.switches.proofs.Sent.{in_steps, past_steps}
+use Rattle.std.proofs.Common.{arith, rules}
+use Rattle.switches.proofs.Walking.{at_start}
 use Rattle.switches.proofs.Counting.{counting_few, counting_next, counting_done}
 use Rattle.switches.proofs.change.count_changes.Goals as goal
 
-pub counted-number-requires : goal.counted-number-requires
-counted-number-requires c = omega (arith, counting_few c.loop-step.invariant)
+pub loop-step-init : goal.loop-step-init
+loop-step-init c =
+    record { at = at_start c.args.rows.now c.args.from c.requires c.last_sent-before.ensures; count = omega arith }
+
+pub overflow_add-number : goal.overflow_add-number
+overflow_add-number c =
+    let few = counting_few c.loop-step.invariant in
+    search rules
 
 pub loop-step-preserved : goal.loop-step-preserved
-loop-step-preserved c =
-    counting_next c.loop-step.invariant (in_steps c.args.capture.now _ c.loop-step-test.true) c.counted-number.ensures
+loop-step-preserved c = rw c.from-number.ensures (counting_next c.loop-step.invariant c.loop-step-test.true)
 
 pub returns : goal.returns
-returns c = counting_done c.loop-step.invariant (past_steps c.args.capture.now _ c.loop-step-test.false)
+returns c = counting_done c.loop-step.invariant c.loop-step-test.false

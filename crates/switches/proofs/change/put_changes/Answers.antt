@@ -1,15 +1,33 @@
-use Rattle.std.proofs.Common.{arith, rules}
-use Rattle.switches.proofs.Sent.{in_steps}
-use Rattle.switches.proofs.Putting.{putting_few, putting_room, putting_next}
+use Rattle.std.proofs.Common.{rules}
+use Rattle.switches.proofs.Walking.{at_start}
+use Rattle.switches.proofs.Putting.{putting_start, putting_few, putting_room, putting_more, putting_same, putting_done}
 use Rattle.switches.proofs.change.put_changes.Goals as goal
+use Rattle.switches.proofs.change.put_changes.Goals.{then-sent-before, else-sent-before}
 
-pub put_change-number-requires : goal.put_change-number-requires
-put_change-number-requires c =
-    let held = c.loop-step.invariant in
-    let inside = in_steps c.args.capture.now _ c.loop-step-test.true in
-    (omega (arith, putting_few held), search (rules, putting_room))
+pub loop-step-init : goal.loop-step-init
+loop-step-init c = putting_start c.requires (at_start c.args.rows.now c.args.from c.requires.inside c.last_sent-before.ensures)
+
+pub bounds-table-number : goal.bounds-table-number
+bounds-table-number c = putting_room c.loop-step.invariant c.loop-step-test.true c.if-sent-before.true
+
+pub offset_bounds-table-number : goal.offset_bounds-table-number
+offset_bounds-table-number c =
+    let few = putting_few c.loop-step.invariant in
+    search rules
+
+pub overflow_add-number : goal.overflow_add-number
+overflow_add-number c =
+    let few = putting_few c.loop-step.invariant in
+    search rules
 
 pub loop-step-preserved : goal.loop-step-preserved
 loop-step-preserved c =
-    let inside = in_steps c.args.capture.now _ c.loop-step-test.true in
-    search (rules, putting_next)
+    elim c.if-sent-before.branch [
+      | then-sent-before w ↦
+          rw (w.table-is, w.number-is) (putting_more c.loop-step.invariant c.loop-step-test.true w.if-sent-before.true)
+      | else-sent-before w ↦
+          rw (w.table-is, w.number-is) (putting_same c.loop-step.invariant c.loop-step-test.true w.if-sent-before.false)
+    ]
+
+pub returns : goal.returns
+returns c = putting_done c.loop-step.invariant c.loop-step-test.false
