@@ -27,7 +27,6 @@ use controller::{Controller, Made};
 use explain::Verdict;
 use pair::table::value_of;
 use pair::{Decoded, Encoded, Pair};
-use switches::{Extending, Looking};
 
 #[unsafe(no_mangle)]
 pub extern "C" fn chainplater_fresh(
@@ -228,13 +227,13 @@ pub extern "C" fn chainplater_switches(
     ensures out_after { out.new ≡ two_bytes (extending capture.now listed count table.old).number }
 {
     match switches::extend(capture, listed, count, table) {
-        Extending::Extended(number) => {
-            *out = [(number / 256) as u8, (number % 256) as u8];
+        Ok(number) => {
+            *out = number.to_be_bytes();
             0
         }
-        Extending::Refused(k) => {
+        Err(refusal) => {
             *out = [0, 0];
-            k
+            refusal.number()
         }
     }
 }
@@ -250,17 +249,18 @@ pub extern "C" fn chainplater_last_change(
     ensures out_after { out.new ≡ looked_bytes (looking capture.now list.now step) }
 {
     match switches::last_change(capture, list, step) {
-        Looking::Change(last) => {
-            *out = [1, (last / 256) as u8, (last % 256) as u8];
+        Ok(Some(last)) => {
+            let [high, low] = last.to_be_bytes();
+            *out = [1, high, low];
             0
         }
-        Looking::NoChange => {
+        Ok(None) => {
             *out = [0, 0, 0];
             0
         }
-        Looking::Refused(k) => {
+        Err(refusal) => {
             *out = [0, 0, 0];
-            k
+            refusal.number()
         }
     }
 }

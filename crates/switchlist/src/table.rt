@@ -5,7 +5,7 @@ ghost use Rattle.std.specs.Prelude.{◌≤◌};
 use crate::line::{LONGEST, put_line};
 use book::{Contents, body, read};
 use page::{next_line, put, put_last};
-use switches::{Extending, extend};
+use switches::extend;
 
 // The sent K1, byte 2 of a step's four. A listed step is one that the capture has (`listed_right` of `switches`); the test
 // stands in the place of a proof of that here.
@@ -29,7 +29,7 @@ fn put_changes(page: &mut [u8], start: usize, number: usize, body: &[u8], steps:
 // Neither test fails: of a book that was read no capture is refused here (`captures_listed` of `chainplater`), and the changes
 // that are counted stand in the table (`whole_right` of `switches`). The program has the tests in the place of a proof of that.
 fn put_capture(page: &mut [u8], at: usize, number: usize, body: &[u8], table: &mut [u16]) -> usize {
-    let Extending::Extended(count) = extend(body, 0, 0, table) else {
+    let Ok(count) = extend(body, 0, 0, table) else {
         return at;
     };
     let end = count as usize;
