@@ -1,4 +1,4 @@
--- Theorems is the front door; the rest are the laws behind it, those of digits for the printed table too.
-mod Texts
+pub mod Texts
+mod Pages
 pub mod Numbers
 mod Theorems

@@ -3,40 +3,56 @@ use mathlib.Core.Path.{◌≡◌, refl}
 use mathlib.Core.List.{List, [], ◌∷◌, ◌++◌}
 use Prim.Native.Nat.{ℕ, ◌+◌, ◌^◌, ◌≤◌, ◌<◌}
 use lib.ListN.{length, take, drop}
-use Rattle.basics.proofs.One.{OneAnswer, OneContent, OnePart, one_value}
+use Rattle.basics.proofs.One.{OneSeen, OneContent, OnePart, one_value}
 use Rattle.io.specs.Digits.{last_digits, IsDigitCount}
+use Rattle.std.specs.Fmt.{WritesInCalls}
+use Rattle.page.specs.Page.{Puts}
+use Rattle.page.specs.declared.Page.{Page}
 use Rattle.page.specs.Text.{with_text, text_end, with_texts, texts_end, joined, line_start}
 use Rattle.page.specs.Digits.{decimal, hexadecimal, number_in}
 use Rattle.page.proofs.Texts.{text_stands, end_put, text_dropped, end_kept, page_long, texts_joined, line_room}
+use Rattle.page.proofs.Pages.{written_whole}
 use Rattle.page.proofs.Numbers.{library_digits, decimal_few, decimal_back, hexadecimal_back}
-use Rattle.page.proofs.put.Kinds as put-kinds
-use Rattle.page.proofs.put.Reads as put-fn
-use Rattle.page.proofs.put.Statement as put-statement
-use Rattle.page.proofs.put.Met as put-met
-use Rattle.page.proofs.put_number.Kinds as put-number-kinds
-use Rattle.page.proofs.put_number.Reads as put-number-fn
-use Rattle.page.proofs.put_number.Statement as put-number-statement
-use Rattle.page.proofs.put_number.Met as put-number-met
-use Rattle.page.proofs.put_hex.Kinds as put-hex-kinds
-use Rattle.page.proofs.put_hex.Reads as put-hex-fn
-use Rattle.page.proofs.put_hex.Statement as put-hex-statement
-use Rattle.page.proofs.put_hex.Met as put-hex-met
-use Rattle.page.proofs.put_field.Kinds as put-field-kinds
-use Rattle.page.proofs.put_field.Reads as put-field-fn
-use Rattle.page.proofs.put_field.Statement as put-field-statement
-use Rattle.page.proofs.put_field.Met as put-field-met
-use Rattle.page.proofs.put_last.Kinds as put-last-kinds
-use Rattle.page.proofs.put_last.Reads as put-last-fn
-use Rattle.page.proofs.put_last.Statement as put-last-statement
-use Rattle.page.proofs.put_last.Met as put-last-met
+use Rattle.page.proofs.Page.put.Kinds as put-kinds
+use Rattle.page.proofs.Page.put.Reads as put-fn
+use Rattle.page.proofs.Page.put.Statement as put-statement
+use Rattle.page.proofs.Page.put.Met as put-met
+use Rattle.page.proofs.Page.put_number.Kinds as put-number-kinds
+use Rattle.page.proofs.Page.put_number.Reads as put-number-fn
+use Rattle.page.proofs.Page.put_number.Statement as put-number-statement
+use Rattle.page.proofs.Page.put_number.Met as put-number-met
+use Rattle.page.proofs.Page.put_hex.Kinds as put-hex-kinds
+use Rattle.page.proofs.Page.put_hex.Reads as put-hex-fn
+use Rattle.page.proofs.Page.put_hex.Statement as put-hex-statement
+use Rattle.page.proofs.Page.put_hex.Met as put-hex-met
+use Rattle.page.proofs.Page.put_field.Kinds as put-field-kinds
+use Rattle.page.proofs.Page.put_field.Reads as put-field-fn
+use Rattle.page.proofs.Page.put_field.Statement as put-field-statement
+use Rattle.page.proofs.Page.put_field.Met as put-field-met
+use Rattle.page.proofs.Page.put_last.Kinds as put-last-kinds
+use Rattle.page.proofs.Page.put_last.Reads as put-last-fn
+use Rattle.page.proofs.Page.put_last.Statement as put-last-statement
+use Rattle.page.proofs.Page.put_last.Met as put-last-met
+use Rattle.page.proofs.Page.new.Statement as new-statement
+use Rattle.page.proofs.Page.new.Met as new-met
+use Rattle.page.proofs.Page.text.Kinds as text-kinds
+use Rattle.page.proofs.Page.text.Reads as text-fn
+use Rattle.page.proofs.Page.text.Statement as text-statement
+use Rattle.page.proofs.Page.text.Met as text-met
+use Rattle.page.proofs.Page.write_out.Kinds as write-out-kinds
+use Rattle.page.proofs.Page.write_out.Reads as write-out-fn
+use Rattle.page.proofs.Page.write_out.Statement as write-out-statement
+use Rattle.page.proofs.Page.write_out.Met as write-out-met
+use Rattle.page.proofs.PageWrite.write_str.Statement as write-str-statement
+use Rattle.page.proofs.PageWrite.write_str.Met as write-str-met
 use Rattle.page.proofs.front.Kinds as front-kinds
 use Rattle.page.proofs.front.Reads as front-fn
 use Rattle.page.proofs.front.Statement as front-statement
 use Rattle.page.proofs.front.Met as front-met
-use Rattle.page.proofs.next_line.Kinds as next-line-kinds
-use Rattle.page.proofs.next_line.Reads as next-line-fn
-use Rattle.page.proofs.next_line.Statement as next-line-statement
-use Rattle.page.proofs.next_line.Met as next-line-met
+use Rattle.page.proofs.Page.next_line.Kinds as next-line-kinds
+use Rattle.page.proofs.Page.next_line.Reads as next-line-fn
+use Rattle.page.proofs.Page.next_line.Statement as next-line-statement
+use Rattle.page.proofs.Page.next_line.Met as next-line-met
 
 -- Each public function answers, and leaves on the page, what its definition says, for every input. (`statement` is the
 -- contract, as the checker reads it off the source; it asks nothing of the caller.)
@@ -61,43 +77,67 @@ front_right = front-met.met
 next_line_right : {M : Type 1} → next-line-statement.statement M
 next_line_right = next-line-met.met
 
--- Two answers that the promise of a public function allows are equal, and so are two contents of the page. (`Post` is the
--- function's `ensures`. A front is a part of the caller's own slice; what is decided of it is its bytes.)
-put_unique : OneAnswer 2 put-kinds.ps put-kinds.r put-fn.Post
-put_unique κs args x y s t p q = one_value p.0 q.0
+new_right : {M : Type 1} → new-statement.statement M
+new_right = new-met.met
 
-put_page_unique : OneContent 2 put-kinds.ps put-kinds.r put-fn.Post (λ κs exit. exit.0.now)
-put_page_unique κs args x y s t p q = one_value p.1 q.1
+put_text_right : {M : Type 1} → text-statement.statement M
+put_text_right = text-met.met
 
-put_number_unique : OneAnswer 1 put-number-kinds.ps put-number-kinds.r put-number-fn.Post
-put_number_unique κs args x y s t p q = one_value p.0 q.0
+write_out_right : {M : Type 1} → write-out-statement.statement M
+write_out_right = write-out-met.met
 
-put_number_page_unique : OneContent 1 put-number-kinds.ps put-number-kinds.r put-number-fn.Post (λ κs exit. exit.0.now)
-put_number_page_unique κs args x y s t p q = one_value p.1 q.1
+write_str_right : {M : Type 1} → write-str-statement.statement M
+write_str_right = write-str-met.met
 
-put_hex_unique : OneAnswer 1 put-hex-kinds.ps put-hex-kinds.r put-hex-fn.Post
-put_hex_unique κs args x y s t p q = one_value p.0 q.0
+-- Two places of the next text that the promise of a public function allows are equal, and so are two contents of the page. (`Post`
+-- is the function's `ensures`. A front is a part of the caller's own slice; what is decided of it is its bytes.)
+put_unique : OneSeen 3 put-kinds.ps put-kinds.r put-fn.Post (λ κs. ℕ) (λ κs x exit. exit.0.now.at)
+put_unique κs args x y s t p q = one_value p.place q.place
 
-put_hex_page_unique : OneContent 1 put-hex-kinds.ps put-hex-kinds.r put-hex-fn.Post (λ κs exit. exit.0.now)
-put_hex_page_unique κs args x y s t p q = one_value p.1 q.1
+put_page_unique : OneContent 3 put-kinds.ps put-kinds.r put-fn.Post (λ κs exit. exit.0.now.bytes.now)
+put_page_unique κs args x y s t p q = one_value p.page q.page
 
-put_field_unique : OneAnswer 1 put-field-kinds.ps put-field-kinds.r put-field-fn.Post
-put_field_unique κs args x y s t p q = one_value p.0 q.0
+put_number_unique : OneSeen 2 put-number-kinds.ps put-number-kinds.r put-number-fn.Post (λ κs. ℕ) (λ κs x exit. exit.0.now.at)
+put_number_unique κs args x y s t p q = one_value p.place q.place
 
-put_field_page_unique : OneContent 1 put-field-kinds.ps put-field-kinds.r put-field-fn.Post (λ κs exit. exit.0.now)
-put_field_page_unique κs args x y s t p q = one_value p.1 q.1
+put_number_page_unique : OneContent 2 put-number-kinds.ps put-number-kinds.r put-number-fn.Post (λ κs exit. exit.0.now.bytes.now)
+put_number_page_unique κs args x y s t p q = one_value p.page q.page
 
-put_last_unique : OneAnswer 2 put-last-kinds.ps put-last-kinds.r put-last-fn.Post
-put_last_unique κs args x y s t p q = one_value p.0 q.0
+put_hex_unique : OneSeen 2 put-hex-kinds.ps put-hex-kinds.r put-hex-fn.Post (λ κs. ℕ) (λ κs x exit. exit.0.now.at)
+put_hex_unique κs args x y s t p q = one_value p.place q.place
 
-put_last_page_unique : OneContent 2 put-last-kinds.ps put-last-kinds.r put-last-fn.Post (λ κs exit. exit.0.now)
-put_last_page_unique κs args x y s t p q = one_value p.1 q.1
+put_hex_page_unique : OneContent 2 put-hex-kinds.ps put-hex-kinds.r put-hex-fn.Post (λ κs exit. exit.0.now.bytes.now)
+put_hex_page_unique κs args x y s t p q = one_value p.page q.page
+
+put_field_unique : OneSeen 2 put-field-kinds.ps put-field-kinds.r put-field-fn.Post (λ κs. ℕ) (λ κs x exit. exit.0.now.at)
+put_field_unique κs args x y s t p q = one_value p.place q.place
+
+put_field_page_unique : OneContent 2 put-field-kinds.ps put-field-kinds.r put-field-fn.Post (λ κs exit. exit.0.now.bytes.now)
+put_field_page_unique κs args x y s t p q = one_value p.page q.page
+
+put_last_unique : OneSeen 3 put-last-kinds.ps put-last-kinds.r put-last-fn.Post (λ κs. ℕ) (λ κs x exit. exit.0.now.at)
+put_last_unique κs args x y s t p q = one_value p.place q.place
+
+put_last_page_unique : OneContent 3 put-last-kinds.ps put-last-kinds.r put-last-fn.Post (λ κs exit. exit.0.now.bytes.now)
+put_last_page_unique κs args x y s t p q = one_value p.page q.page
 
 front_unique : OnePart 1 front-kinds.ps front-kinds.r front-fn.Post (λ κs part. part.now)
 front_unique κs args x y s t p q = one_value p q
 
-next_line_unique : OneAnswer 1 next-line-kinds.ps next-line-kinds.r next-line-fn.Post
-next_line_unique κs args x y s t p q = one_value p q
+next_line_unique : OneSeen 2 next-line-kinds.ps next-line-kinds.r next-line-fn.Post (λ κs. ℕ) (λ κs x exit. exit.0.now.at)
+next_line_unique κs args x y s t p q = one_value p.0 q.0
+
+next_line_page_unique : OneContent 2 next-line-kinds.ps next-line-kinds.r next-line-fn.Post (λ κs exit. exit.0.now.bytes.now)
+next_line_page_unique κs args x y s t p q = one_value p.1.0 q.1.0
+
+write_out_unique : OneSeen 2 write-out-kinds.ps write-out-kinds.r write-out-fn.Post (λ κs. ℕ) (λ κs x exit. exit.0.now.at)
+write_out_unique κs args x y s t p q = one_value p.0 q.0
+
+write_out_page_unique : OneContent 2 write-out-kinds.ps write-out-kinds.r write-out-fn.Post (λ κs exit. exit.0.now.bytes.now)
+write_out_page_unique κs args x y s t p q = one_value p.1.0 q.1.0
+
+put_text_unique : OnePart 2 text-kinds.ps text-kinds.r text-fn.Post (λ κs part. part.now)
+put_text_unique κs args x y s t p q = one_value p q
 
 -- With room at its place a text stands there, between what stood before and behind it, and the next place is where it ends;
 -- without, the page and the place are as they were. The page has as many bytes as before.
@@ -117,6 +157,12 @@ page_size = page_long
 texts_right : (page : List ℕ) (at : ℕ) (texts : List (List ℕ)) → at + length (joined texts) ≤ length page
     → (with_texts page at texts ≡ with_text page at (joined texts)) × (texts_end page at texts ≡ at + length (joined texts))
 texts_right = texts_joined
+
+-- A formatted text, which is put piece by piece, stands there as one text would, where there is room for it. (`WritesInCalls` is
+-- what the library says of a `write!`.)
+written_right : (before after : Page) (text : List ℕ) → before.at + length text ≤ length before.bytes.now
+    → WritesInCalls Puts before text after → Puts before text after
+written_right = written_whole
 
 -- Where a line begins it has room, if a page has.
 line_right : (size at longest : ℕ) → longest ≤ size → line_start size at longest + longest ≤ size

@@ -1,11 +1,13 @@
-// Text on a page, for the programs that print a line for each step. A page is filled from its start and written whenever it is
-// full. Each function that puts a text takes where it begins and answers where the next one does; a text that the page has no room
-// for is dropped whole.
+// Text on a page, for the programs that print a line for each step and for the table of a book. A page is filled from its start;
+// a text that it has no room for is dropped whole.
 #![tactic(auto)]
 
 ghost use Rattle.std.specs.Prelude.{◌+◌, ◌<◌, leb, length, take, ◌≡◌};
 ghost use Rattle.page.specs.Digits.{digit_of, decimal, hexadecimal};
-ghost use Rattle.page.specs.Text.{with_text, text_end, with_texts, texts_end, field, last, line_start};
+ghost use Rattle.page.specs.Page.{Puts, PutsEach};
+ghost use Rattle.page.specs.Text.{field, last, line_start};
+
+use std::fmt;
 
 const STDOUT: i32 = 1;
 
@@ -13,86 +15,122 @@ const STDOUT: i32 = 1;
 // all of them more than 600,000 bytes.
 pub const BLOCK: usize = 4096;
 
+// Lent bytes, and where the next text begins.
+#[derive(Drop)]
+pub struct Page<'a> {
+    pub bytes: &'a mut [u8],
+    pub at: usize,
+}
+
 // Whether so many bytes have room at a place. (The sum of the two may be too large for a usize.)
 fn has_room(size: usize, at: usize, more: usize) -> bool
     ensures { result ≡ leb (at + more) size }
 {
-    if size < at {
-        return false;
-    }
-    more <= size - at
-}
-
-pub fn put(page: &mut [u8], at: usize, text: &[u8]) -> usize
-    ensures value { result ≡ text_end page.old at text.now }
-    ensures page_after { page.new ≡ with_text page.old at text.now }
-{
-    if has_room(page.len(), at, text.len()) {
-        page[at..at + text.len()].copy_from_slice(text);
-        at + text.len()
-    } else {
-        at
-    }
-}
-
-pub fn put_number(page: &mut [u8], at: usize, v: u64) -> usize
-    ensures value { result ≡ text_end page.old at (decimal v) }
-    ensures page_after { page.new ≡ with_text page.old at (decimal v) }
-{
-    let mut digits = [0u8; 20];
-    let k = io::decimal(v, &mut digits);
-    put(page, at, &digits[..k])
+    at <= size && more <= size - at
 }
 
 fn digit(d: u8) -> u8
     requires { d < 16 }
     ensures { result ≡ digit_of d }
 {
-    if d < 10 { 48 + d } else { 55 + d }
-}
-
-pub fn put_hex(page: &mut [u8], at: usize, b: u8) -> usize
-    ensures value { result ≡ text_end page.old at (hexadecimal b) }
-    ensures page_after { page.new ≡ with_text page.old at (hexadecimal b) }
-{
-    let digits = [digit(b / 16), digit(b % 16)];
-    put(page, at, &digits)
-}
-
-// A number and the space behind it.
-pub fn put_field(page: &mut [u8], at: usize, v: u64) -> usize
-    ensures value { result ≡ texts_end page.old at (field v) }
-    ensures page_after { page.new ≡ with_texts page.old at (field v) }
-{
-    let at = put_number(page, at, v);
-    put(page, at, b" ")
-}
-
-// The end of a line: a word, and the number that goes with it.
-pub fn put_last(page: &mut [u8], at: usize, word: &[u8], v: u64) -> usize
-    ensures value { result ≡ texts_end page.old at (last word.now v) }
-    ensures page_after { page.new ≡ with_texts page.old at (last word.now v) }
-{
-    let at = put(page, at, word);
-    let at = put_number(page, at, v);
-    put(page, at, b"\n")
+    if d < 10 { b'0' + d } else { b'A' + (d - 10) }
 }
 
 // The first n bytes, or all where there are fewer.
 pub fn front(bytes: &[u8], n: usize) -> &[u8]
     ensures { result.now ≡ take n bytes.now }
 {
-    if bytes.len() < n { bytes } else { &bytes[..n] }
+    &bytes[..n.min(bytes.len())]
 }
 
-// Where a line of at most so many bytes begins: behind the last one, or, once the page is written, at its start. (No contract
-// can say what is written.)
-pub fn next_line(page: &[u8], at: usize, longest: usize) -> usize
-    ensures { result ≡ line_start (length page.now) at longest }
-{
-    if has_room(page.len(), at, longest) {
-        return at;
+impl<'a> Page<'a> {
+    pub fn new(bytes: &'a mut [u8]) -> Page<'a>
+        ensures bytes { result.bytes.now ≡ bytes.old }
+        ensures start { result.at ≡ 0 }
+        ensures same_reference { result.bytes.ghost_name ≡ bytes.entry.ghost_name }
+    {
+        Page { bytes, at: 0 }
     }
-    io::write_all(STDOUT, front(page, at));
-    0
+
+    pub fn put(&mut self, text: &[u8])
+        ensures { Puts self.old text.now self.new }
+    {
+        if has_room(self.bytes.len(), self.at, text.len()) {
+            let end = self.at + text.len();
+            self.bytes[self.at..end].copy_from_slice(text);
+            self.at = end;
+        }
+    }
+
+    pub fn put_number(&mut self, v: u64)
+        ensures { Puts self.old (decimal v) self.new }
+    {
+        let mut digits = [0u8; 20];
+        let k = io::decimal(v, &mut digits);
+        self.put(&digits[..k]);
+    }
+
+    pub fn put_hex(&mut self, b: u8)
+        ensures { Puts self.old (hexadecimal b) self.new }
+    {
+        let digits = [digit(b / 16), digit(b % 16)];
+        self.put(&digits);
+    }
+
+    // A number and the space behind it.
+    pub fn put_field(&mut self, v: u64)
+        ensures { PutsEach self.old (field v) self.new }
+    {
+        self.put_number(v);
+        self.put(b" ");
+    }
+
+    // The end of a line: a word, and the number that goes with it.
+    pub fn put_last(&mut self, word: &[u8], v: u64)
+        ensures { PutsEach self.old (last word.now v) self.new }
+    {
+        self.put(word);
+        self.put_number(v);
+        self.put(b"\n");
+    }
+
+    // Where a line of at most so many bytes begins: behind the last one, or, once the page is written, at its start. (No
+    // contract can say what is written.)
+    pub fn next_line(&mut self, longest: usize)
+        ensures place { self.new.at ≡ line_start (length self.old.bytes.now) self.old.at longest }
+        ensures page_kept { self.new.bytes.now ≡ self.old.bytes.now }
+        ensures same_reference { self.new.bytes.ghost_name ≡ self.old.bytes.ghost_name }
+    {
+        if !has_room(self.bytes.len(), self.at, longest) {
+            self.write_out();
+        }
+    }
+
+    // What is put on the page.
+    pub fn text(&self) -> &[u8]
+        ensures { result.now ≡ take self.now.at self.now.bytes.now }
+    {
+        let end = self.at;
+        front(self.bytes, end)
+    }
+
+    // Writes what is on the page, and begins it again.
+    pub fn write_out(&mut self)
+        ensures place { self.new.at ≡ 0 }
+        ensures page_kept { self.new.bytes.now ≡ self.old.bytes.now }
+        ensures same_reference { self.new.bytes.ghost_name ≡ self.old.bytes.ghost_name }
+    {
+        io::write_all(STDOUT, self.text());
+        self.at = 0;
+    }
+}
+
+// Each piece of a formatted text is put, and none fails.
+impl fmt::Write for Page<'_> {
+    ghost write_str_gives = { Puts };
+
+    fn write_str(&mut self, s: &str) -> fmt::Result {
+        self.put(s.as_bytes());
+        Ok(())
+    }
 }

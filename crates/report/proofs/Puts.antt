@@ -1,36 +1,36 @@
 -- Laws of texts on a page: one that is copied to its place stands there, and two of them, the second behind the first, are one.
-use mathlib.Core.Path.{◌≡◌, refl, sym, ap, subst, ◌∙◌}
-use mathlib.Core.List.{List, ◌++◌, append_assoc}
-use Prim.Native.Nat.{ℕ, ◌+◌, ◌-◌, ◌≤◌}
+use mathlib.Core.Path.{◌≡◌, sym, ap, subst, ◌∙◌}
+use mathlib.Core.List.{List, ◌++◌}
+use Prim.Native.Nat.{ℕ}
 use native.Mathlib.Nat.{zero-add}
 use native.Mathlib.Omega.{arith}
-use lib.ListN.{length, take, drop, length-append, length-drop}
-use lib.Seq.{sets, sets-eq, length-sets, drop-drop}
-use Rattle.basics.proofs.Bytes.{rest_part, back, lent, copied, sets_joined}
+use lib.ListN.{length, drop, length-append}
+use lib.Seq.{sets, sets-eq, length-sets}
+use Rattle.basics.proofs.Bytes.{sets_joined}
+use Rattle.page.specs.Page.{Puts, PutsEach}
+use Rattle.page.specs.Text.{joined, last, field as page_field}
+use Rattle.page.specs.declared.Page.{Page}
+use Rattle.page.proofs.Texts.{text_put, end_put, texts_joined}
 use Rattle.report.specs.Put.{Room, Put}
+use Rattle.report.specs.Table.{field, ending}
 
-module _ (page : List ℕ) (at : ℕ) (text : List ℕ) (room : Room page at text) where
-  -- the part of the page from the place on, to which the text is copied
-  abbrev rest : List ℕ
-  rest = take (length page - at) (drop at page)
-
-  pub rest_room : length text ≤ length rest
-  rest_room = rw (rest_part at page, length-drop at page) (omega (arith, room.fits))
-
-  pub text_put : (after : List ℕ) → after ≡ take (length text) text ++ drop (length text) rest
-      → Put page at text (back page at after) (at + length text)
-  text_put after e = record { stands = lent page after text at room.fits (e ∙ copied text rest rest_room); ends = refl }
-
--- the part of the page that the text fills, holding the text
-pub text_filled : (page : List ℕ) (at : ℕ) (text : List ℕ) → Room page at text → (part : List ℕ) (size : ℕ)
-    → size ≡ length text → part ≡ text
-    → Put page at text (take at page ++ (part ++ drop size (drop at page))) (at + length text)
-text_filled page at text room part size long e =
+-- what the page promises of its texts, where there is room for all of them
+pub put_each : {before after : Page} (texts : List (List ℕ)) → Room before.bytes.now before.at (joined texts)
+    → PutsEach before texts after → Put before.bytes.now before.at (joined texts) after.bytes.now after.at
+put_each {before} texts room told =
+    let page = before.bytes.now in
+    let whole = texts_joined page before.at texts room.fits in
     record {
-      stands =
-          rw (long, e, drop-drop (length text) at page, sets-eq text page at room.fits)
-          (sym (append_assoc (take at page) text (drop (at + length text) page)));
-      ends = refl;
+      stands = told.page ∙ whole.0 ∙ text_put page before.at (joined texts) room.fits;
+      ends = told.place ∙ whole.1;
+    }
+
+pub put_one : {before after : Page} {text : List ℕ} → Room before.bytes.now before.at text → Puts before text after
+    → Put before.bytes.now before.at text after.bytes.now after.at
+put_one {before} {text = text} room told =
+    record {
+      stands = told.page ∙ text_put before.bytes.now before.at text room.fits;
+      ends = told.place ∙ end_put before.bytes.now before.at text room.fits;
     }
 
 pub put_long : {page after text : List ℕ} {at end : ℕ} → Put page at text after end → length after ≡ length page
@@ -65,6 +65,19 @@ room_behind {first = first} {second} room p =
     let long = length-append first second in
     let same = put_long p in
     record { fits = omega (arith, room.fits, p.ends) }
+
+-- the end of a line: a word and its number, of which a text is made
+pub ending_put : {before after : Page} {text : List ℕ} (word : List ℕ) {number shown : ℕ} → text ≡ ending word number
+    → shown ≡ number → Room before.bytes.now before.at text → PutsEach before (last word shown) after
+    → Put before.bytes.now before.at text after.bytes.now after.at
+ending_put word {number} same told room put =
+    put_as (sym same) (put_each (last word number) (room_as (sym same) room) (rw told at put))
+
+-- a number and the space behind it, in front of more
+pub field_put : {before after : Page} {v shown : ℕ} (more : List ℕ) → shown ≡ v
+    → Room before.bytes.now before.at (field v ++ more) → PutsEach before (page_field shown) after
+    → Put before.bytes.now before.at (field v) after.bytes.now after.at
+field_put {v = v} more told room put = put_each (page_field v) (room_first more room) (rw told at put)
 
 -- at the start of a page, the text and what was behind it
 pub from_start : {page after text : List ℕ} {end : ℕ} → Room page 0 text → Put page 0 text after end

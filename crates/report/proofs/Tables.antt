@@ -17,11 +17,14 @@ use Rattle.book.specs.declared.Entry.{Entry}
 use Rattle.book.proofs.Entries.{length_entries}
 use Rattle.book.proofs.Ordered.{order_ends, whole_bodies, book_exact}
 use Rattle.explain.specs.declared.Verdict.{Verdict}
+use Rattle.page.specs.Page.{PutsEach}
+use Rattle.page.specs.Text.{last}
+use Rattle.page.specs.declared.Page.{Page}
 use Rattle.report.specs.Put.{Room, Put}
 use Rattle.report.specs.Table.{chars, header, ending, lines_text, AreVerdicts, IsTable, Printed}
 use Rattle.report.proofs.Captures.{both_fit, judged_within}
 use Rattle.report.proofs.Longest.{AllFit, captures_short, refused_short}
-use Rattle.report.proofs.Puts.{from_start}
+use Rattle.report.proofs.Puts.{ending_put, from_start}
 use Rattle.report.proofs.Verdicts.{verdicts, all_some, all_one}
 
 module _ (book : List ℕ) where
@@ -129,15 +132,19 @@ printed_one {book} {before} {after' = after'} {answer' = answer'} p q =
 pub refused_room : (page : List ℕ) (number : ℕ) → 2048 ≤ length page → Room page 0 (ending (chars "refused ") number)
 refused_room page number large = let short = refused_short number in record { fits = omega arith }
 
-pub refused_printed : {page book after : List ℕ} {number end : ℕ} → 2048 ≤ length page → number ≡ refusal book
-    → (number ≡ 0 → ⊥) → Put page 0 (ending (chars "refused ") number) after end → Printed book page after end
-refused_printed {page} {book} {number = number} large same some put =
-    let told = from_start (refused_room page number large) put in
+pub refused_printed : {page after : Page} {book : List ℕ} {number shown : ℕ} → 2048 ≤ length page.bytes.now → page.at ≡ 0
+    → number ≡ refusal book → (number ≡ 0 → ⊥) → shown ≡ number → PutsEach page (last (chars "refused ") shown) after
+    → Printed book page.bytes.now after.bytes.now after.at
+refused_printed {page} {after} {book} {number} large start same some told put =
+    let room = refused_room page.bytes.now number large in
+    let stands : Put page.bytes.now page.at (ending (chars "refused ") number) after.bytes.now after.at =
+    ending_put (chars "refused ") refl told (rw start room) put in
+    let printed = from_start room (rw start at stands) in
     record {
       text = ending (chars "refused ") number;
       table = rw same (refused_table book (λ none. some (same ∙ none)));
-      page = told.0;
-      long = told.1;
+      page = printed.0;
+      long = printed.1;
     }
 
 -- the first check of all

@@ -5,8 +5,8 @@ use Prim.Native.Nat.{ℕ, ◌+◌, ◌-◌, ◌≤◌, ◌<◌}
 use native.Mathlib.Nat.{add-zero}
 use native.Mathlib.Numerals.{add-one}
 use native.Mathlib.Omega.{arith}
-use lib.ListN.{length, get_or, drop, replicate, length-append, drop_of_length-le, get_or-append}
-use lib.Seq.{sets, drop-cons}
+use lib.ListN.{length, get_or, take, drop, replicate, length-append, drop_of_length-le}
+use lib.Seq.{sets, drop-cons, take_at}
 use Rattle.basics.proofs.Bytes.{sets_joined}
 use Rattle.book.specs.Format.{count_in, entries_of, places, no_entry}
 use Rattle.book.specs.declared.Contents.{Contents}
@@ -15,6 +15,7 @@ use Rattle.book.specs.declared.Reading.{Reading}
 use Rattle.book.proofs.Entries.{length_entries, accepted}
 use Rattle.book.proofs.Ordered.{book_exact}
 use Rattle.explain.specs.declared.Verdict.{Verdict}
+use Rattle.page.specs.declared.Page.{Page}
 use Rattle.report.specs.Put.{Room, Put, LineRoom, PutLine, Opened}
 use Rattle.report.specs.Table.{header, line_text, lines_text, IsVerdict, Printed}
 use Rattle.report.proofs.Puts.{put_long, behind, from_start}
@@ -33,7 +34,7 @@ left_over {page} {between} {final} {first} {second} {at} p whole =
     }
 
 -- the contents that were read are the book's entries, and places behind them
-module _ {page book : List ℕ} {contents : Contents} (opened : Opened page book contents) where
+module _ {page : Page} {book : List ℕ} {contents : Contents} (opened : Opened page book contents) where
   contents_are : contents ≡ record { count = count_in book; entries = places (entries_of book) }
   contents_are = opened.read ∙ ap (λ (r : Reading). r.contents) (accepted book opened.unrefused)
 
@@ -43,13 +44,15 @@ module _ {page book : List ℕ} {contents : Contents} (opened : Opened page book
   pub few : contents.count ≤ 64
   few = rw contents_are ((book_exact book).0 opened.unrefused).few
 
-  pub entry_is : (i : ℕ) → i < length (entries_of book) → get_or contents.entries i no_entry ≡ get_or (entries_of book) i no_entry
-  entry_is i h =
-      ap (λ (c : Contents). get_or c.entries i no_entry) contents_are
-      ∙ get_or-append (entries_of book) (replicate (64 - length (entries_of book)) no_entry) no_entry i h
+  pub entries_are : take contents.count contents.entries ≡ entries_of book
+  entries_are =
+      ap (λ (c : Contents). take c.count c.entries) contents_are
+      ∙ take_at (entries_of book) (replicate (64 - length (entries_of book)) no_entry) (count_in book)
+      (length_entries (count_in book) (drop 2 book))
 
-  pub table_room : Room page 0 (table_of book)
-  table_room = let short = read_short book opened.unrefused in record { fits = omega (arith, opened.large) }
+  pub table_room : Room page.bytes.now page.at (table_of book)
+  table_room =
+      let short = read_short book opened.unrefused in record { fits = omega (arith, opened.large, opened.start) }
 
 module _ (book : List ℕ) where
   -- the lines of the captures from number i on
@@ -111,8 +114,11 @@ module _ (book : List ℕ) where
         record { stands = sym last.stands; ends = sym (last.ends ∙ add-zero at) }
 
 -- the header and the lines are the table
-pub lines_printed : {page book between after : List ℕ} {contents : Contents} {next end : ℕ} → Opened page book contents
-    → Put page 0 header between next → Put between next (rest book 0) after end → Printed book page after end
-lines_printed {book = book} opened head lines =
-    let told = from_start (table_room opened) (behind head lines) in
+pub lines_printed : {page : Page} {book between after : List ℕ} {contents : Contents} {next end : ℕ} → Opened page book contents
+    → Put page.bytes.now page.at header between next → Put between next (rest book 0) after end
+    → Printed book page.bytes.now after end
+lines_printed {page} {book = book} {after = after} {end = end} opened head lines =
+    let room = rw opened.start at (table_room opened) in
+    let whole : Put page.bytes.now 0 (table_of book) after end = rw opened.start at (behind head lines) in
+    let told = from_start room whole in
     record { text = table_of book; table = read_table book opened.unrefused; page = told.0; long = told.1 }

@@ -5,6 +5,7 @@ use Rattle.book.specs.Reader.{refusal, reading}
 use Rattle.book.specs.declared.Contents.{Contents}
 use Rattle.book.specs.declared.Entry.{Entry}
 use Rattle.explain.specs.declared.Verdict.{Verdict}
+use Rattle.page.specs.declared.Page.{Page}
 use Rattle.report.specs.Table.{line_text, IsVerdict}
 
 -- a text has room at a place
@@ -25,7 +26,8 @@ pub record PutLine (before : List ℕ) (at : ℕ) (book : List ℕ) (number : �
   pub put : Put before at (line_text number e verdict) after end
 
 -- what was read of a book, and a page for its table
-pub record Opened (page book : List ℕ) (contents : Contents) : Type 0 where
-  pub large : 2048 ≤ length page
+pub record Opened (page : Page) (book : List ℕ) (contents : Contents) : Type 0 where
+  pub large : 2048 ≤ length page.bytes.now
+  pub start : page.at ≡ 0
   pub unrefused : refusal book ≡ 0
   pub read : contents ≡ (reading book).contents

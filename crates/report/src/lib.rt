@@ -5,35 +5,35 @@ mod line;
 
 ghost use Rattle.report.specs.Put.{Opened};
 ghost use Rattle.report.specs.Table.{Printed};
+ghost use Rattle.std.specs.Prelude.{◌≡◌};
 
-use crate::line::{put, put_capture, put_ending};
+use crate::line::put_capture;
 use book::{Contents, read};
+use page::Page;
 
 // The header, and a line for each capture of a book that was read.
-fn put_captures(page: &mut [u8], book: &[u8], contents: Contents) -> usize
+fn put_captures(page: &mut Page<'_>, book: &[u8], contents: Contents)
     requires { Opened page.old book.now contents }
-    ensures { Printed book.now page.old page.new result }
+    ensures printed { Printed book.now page.old.bytes.now page.new.bytes.now page.new.at }
+    ensures same_reference { page.new.bytes.ghost_name ≡ page.old.bytes.ghost_name }
 {
-    let count = contents.count;
-    let entries = contents.entries;
-    let mut at = put(page, 0, b"capture sections steps verdict at\n");
-    let mut i = 0;
-    while i < count as usize {
-        let e = entries[i];
-        at = put_capture(page, at, book, i, e);
-        i += 1;
+    page.put(b"capture sections steps verdict at\n");
+    let count = contents.count as usize;
+    for (i, e) in contents.entries[..count].iter().enumerate() {
+        put_capture(page, book, i, *e);
     }
-    at
 }
 
 // Every table has room: the longest has 1,708 characters (`table_longest`).
 pub fn put_table(book: &[u8], page: &mut [u8; 2048]) -> usize
     ensures { Printed book.now page.old page.new result }
 {
+    let mut table = Page::new(page);
     let answer = read(book);
     if answer.refusal == 0 {
-        put_captures(page, book, answer.contents)
+        put_captures(&mut table, book, answer.contents);
     } else {
-        put_ending(page, 0, b"refused ", answer.refusal as u64)
+        table.put_last(b"refused ", u64::from(answer.refusal));
     }
+    table.at
 }

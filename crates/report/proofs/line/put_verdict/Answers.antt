@@ -1,18 +1,19 @@
 -- In each case of the verdict.
-use Rattle.std.proofs.Common.{sym, ap}
-use Rattle.report.specs.Table.{verdict_text}
-use Rattle.report.proofs.Puts.{behind, put_as}
+use Rattle.std.proofs.Common.{ap}
+use Rattle.report.specs.Table.{chars, verdict_text}
+use Rattle.report.proofs.Puts.{ending_put}
 use Rattle.report.proofs.line.put_verdict.Goals as goal
 
-pub returns-in-Explained : goal.returns-in-Explained
-returns-in-Explained c =
-    behind c.put_number-at.ensures (put_as (ap verdict_text (sym c.in-Explained.is)) c.put_ending.ensures)
+pub returns-in-Explained-clause-text : goal.returns-in-Explained-clause-text
+returns-in-Explained-clause-text c =
+    ending_put (chars "explained ") (ap verdict_text c.in-Explained.is) c.from.ensures c.requires c.put_last.ensures
 
-pub returns-in-Unexplained : goal.returns-in-Unexplained
-returns-in-Unexplained c =
-    behind c.put_number-at.ensures
-    (put_as (ap verdict_text (sym c.in-Unexplained.is)) c.put_ending-in-Unexplained.ensures)
+pub returns-in-Unexplained-clause-text : goal.returns-in-Unexplained-clause-text
+returns-in-Unexplained-clause-text c =
+    ending_put (chars "unexplained ") (ap verdict_text c.in-Unexplained.is) c.from-in-Unexplained.ensures c.requires
+    c.put_last-in-Unexplained.ensures
 
-pub returns-in-Refused : goal.returns-in-Refused
-returns-in-Refused c =
-    behind c.put_number-at.ensures (put_as (ap verdict_text (sym c.in-Refused.is)) c.put_ending-in-Refused.ensures)
+pub returns-in-Refused-clause-text : goal.returns-in-Refused-clause-text
+returns-in-Refused-clause-text c =
+    ending_put (chars "refused ") (ap verdict_text c.in-Refused.is) c.from-in-Refused.ensures c.requires
+    c.put_last-in-Refused.ensures
