@@ -4,21 +4,18 @@
 mod line;
 mod table;
 
-use crate::table::put_table;
-use book::{INPUT, STEPS};
-use page::{BLOCK, front};
-
-const STDIN: i32 = 0;
-
-const STDOUT: i32 = 1;
+use crate::table::put_capture;
+use book::STEPS;
+use listing::list;
 
 fn main() {
-    let mut input = [0u8; INPUT];
-    let size = io::read_full(STDIN, &mut input);
-    let mut text = [0u8; BLOCK];
     // So no table is too short (refusal 11).
     let mut conditions = [0u32; STEPS];
     let mut commands = [0u16; STEPS];
-    let end = put_table(&mut text, &input[..size], &mut conditions, &mut commands);
-    io::write_all(STDOUT, front(&text, end));
+    list(
+        "capture step received sent conditions command",
+        |page, book, number, e| {
+            put_capture(page, book, number, e, &mut conditions, &mut commands)
+        },
+    );
 }

@@ -1,34 +1,46 @@
-// A line of the table: a step at which the sent K1 changes, and what is requested from there on (02, e).
-use page::{put, put_field, put_hex, put_number};
+// The lines of a capture: the steps at which the sent K1 changes, and what is requested from there on (02, e).
+use page::Page;
+use std::fmt;
+use std::fmt::Write;
+use switches::extend;
 
 // The bytes of the longest line, '63 16383 FF SF-H 15' with its end.
-pub(crate) const LONGEST: usize = 20;
+const LONGEST: usize = 20;
 
-// The request by its code, the upper four bits of K1 (01, 'The byte pair'). A captured K1 may have any code.
-fn put_request(page: &mut [u8], at: usize, code: u8) -> usize {
-    match code {
-        15 => put(page, at, b"LO "),
-        14 => put(page, at, b"FS "),
-        13 => put(page, at, b"SF-H "),
-        12 => put(page, at, b"SF-L "),
-        11 => put(page, at, b"SD-H "),
-        10 => put(page, at, b"SD-L "),
-        8 => put(page, at, b"MS "),
-        6 => put(page, at, b"WTR "),
-        2 => put(page, at, b"RR "),
-        0 => put(page, at, b"NR "),
-        _ => put(page, at, b"? "),
-    }
+// The requests by their codes, the upper four bits of K1 (01, 'The byte pair'). A captured K1 may have any code.
+const REQUESTS: [&str; 16] = [
+    "NR", "?", "RR", "?", "?", "?", "WTR", "?", "MS", "?", "SD-L", "SD-H", "SF-L", "SF-H", "FS",
+    "LO",
+];
+
+// The sent K1, byte 2 of a step's four. A listed step is one that the capture has (`listed_right` of `switches`); the 0 stands
+// in the place of a proof of that here.
+fn sent_at(body: &[u8], step: u16) -> u8 {
+    let place = 4 * usize::from(step) + 2;
+    body.get(place).copied().unwrap_or(0)
 }
 
-// As '0 0 A2 SD-L 2': the number of the capture, the step, the K1 sent there, its request, and its channel, the lower four
-// bits.
-pub(crate) fn put_line(page: &mut [u8], at: usize, capture: usize, step: u16, k1: u8) -> usize {
-    let at = put_field(page, at, capture as u64);
-    let at = put_field(page, at, step as u64);
-    let at = put_hex(page, at, k1);
-    let at = put(page, at, b" ");
-    let at = put_request(page, at, k1 / 16);
-    let at = put_number(page, at, (k1 % 16) as u64);
-    put(page, at, b"\n")
+// Lines as '0 0 A2 SD-L 2': the number of the capture, the step, the K1 sent there, its request, and its channel, the lower four
+// bits. Neither `else` is taken: of a book that was read no capture is refused here (`captures_listed` of `chainplater`), and the
+// changes that are counted stand in the table (`whole_right` of `switches`). They stand in the place of a proof of that.
+pub(crate) fn put_capture(
+    page: &mut Page<'_>,
+    number: usize,
+    body: &[u8],
+    table: &mut [u16],
+) -> fmt::Result {
+    let Ok(count) = extend(body, 0, 0, table) else {
+        return Ok(());
+    };
+    let Some(steps) = table.get(..usize::from(count)) else {
+        return Ok(());
+    };
+    for step in steps {
+        let k1 = sent_at(body, *step);
+        let request = REQUESTS[usize::from(k1 / 16)];
+        let channel = k1 % 16;
+        page.next_line(LONGEST);
+        writeln!(page, "{number} {step} {k1:02X} {request} {channel}")?;
+    }
+    Ok(())
 }

@@ -2,22 +2,15 @@
 #![tactic(auto)]
 
 mod line;
-mod table;
 
-use crate::table::put_table;
-use book::{INPUT, STEPS};
-use page::{BLOCK, front};
-
-const STDIN: i32 = 0;
-
-const STDOUT: i32 = 1;
+use crate::line::put_capture;
+use book::{STEPS, body};
+use listing::list;
 
 fn main() {
-    let mut input = [0u8; INPUT];
-    let size = io::read_full(STDIN, &mut input);
-    let mut text = [0u8; BLOCK];
     // The sent K1 may change at each step.
     let mut changes = [0u16; STEPS];
-    let end = put_table(&mut text, &input[..size], &mut changes);
-    io::write_all(STDOUT, front(&text, end));
+    list("capture step k1 request channel", |page, book, number, e| {
+        put_capture(page, number, body(book, e), &mut changes)
+    });
 }
