@@ -1,19 +1,20 @@
 // The line of a capture. Each function asks for the room.
 ghost use Rattle.report.specs.Put.{Room, Put, LineRoom, PutLine};
-ghost use Rattle.report.specs.Table.{verdict_text};
-ghost use Rattle.std.specs.Prelude.{◌≡◌};
+ghost use Rattle.report.specs.Table.{field, verdict_text};
+ghost use Rattle.std.specs.Prelude.{◌≡◌, ◌++◌};
 
 use book::{Entry, body, hold_in};
 use explain::{Verdict, judge};
 use page::Page;
 
-// The end of a line: the verdict, and the number that goes with it. The last case does not come up: no capture of a book that
-// was read is refused by the judge (`captures_judged`). The judge has it for its other callers.
-fn put_verdict(page: &mut Page<'_>, verdict: Verdict)
-    requires { Room page.old.bytes.now page.old.at (verdict_text verdict) }
-    ensures text { Put page.old.bytes.now page.old.at (verdict_text verdict) page.new.bytes.now page.new.at }
+// The steps of a capture, and its verdict. The last case does not come up: no capture of a book that was read is refused by the
+// judge (`captures_judged`). The judge has it for its other callers.
+fn put_verdict(page: &mut Page<'_>, steps: u16, verdict: Verdict)
+    requires { Room page.old.bytes.now page.old.at (field steps ++ verdict_text verdict) }
+    ensures text { Put page.old.bytes.now page.old.at (field steps ++ verdict_text verdict) page.new.bytes.now page.new.at }
     ensures same_reference { page.new.bytes.ghost_name ≡ page.old.bytes.ghost_name }
 {
+    page.put_field(u64::from(steps));
     match verdict {
         Verdict::Explained(all) => page.put_last(b"explained ", u64::from(all)),
         Verdict::Unexplained(first) => page.put_last(b"unexplained ", u64::from(first)),
@@ -30,6 +31,5 @@ pub(crate) fn put_capture(page: &mut Page<'_>, book: &[u8], number: usize, e: En
     let verdict = judge(e.n, hold_in(e), e.mask, e.w, body(book, e));
     page.put_field(number as u64);
     page.put_field(u64::from(e.n));
-    page.put_field(u64::from(e.steps));
-    put_verdict(page, verdict);
+    put_verdict(page, e.steps, verdict);
 }

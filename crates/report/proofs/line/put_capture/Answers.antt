@@ -11,9 +11,7 @@ put_verdict-requires c =
     let right : IsVerdict c.args.book.now c.args.e v = rw (c.body.ensures, c.hold_in.ensures) at c.judge-verdict.ensures in
     let all = c.requires v right in
     let first = field_put _ refl all c.put_field.ensures in
-    let second = field_put _ c.from.ensures (room_behind all first) c.put_field-2.ensures in
-    let third = field_put _ c.from-2.ensures (room_behind (room_behind all first) second) c.put_field-3.ensures in
-    room_behind (room_behind (room_behind all first) second) third
+    room_behind (room_behind all first) (field_put _ c.from.ensures (room_behind all first) c.put_field-2.ensures)
 
 pub returns-clause-line : goal.returns-clause-line
 unfolding line_text
@@ -23,5 +21,4 @@ returns-clause-line c =
     let all = c.requires v right in
     let first = field_put _ refl all c.put_field.ensures in
     let second = field_put _ c.from.ensures (room_behind all first) c.put_field-2.ensures in
-    let third = field_put _ c.from-2.ensures (room_behind (room_behind all first) second) c.put_field-3.ensures in
-    record { verdict = v; right = right; put = behind first (behind second (behind third c.put_verdict.ensures.text)) }
+    record { verdict = v; right = right; put = behind first (behind second c.put_verdict.ensures.text) }

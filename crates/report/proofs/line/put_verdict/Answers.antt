@@ -1,19 +1,26 @@
 -- In each case of the verdict.
 use Rattle.std.proofs.Common.{ap}
 use Rattle.report.specs.Table.{chars, verdict_text}
-use Rattle.report.proofs.Puts.{ending_put}
+use Rattle.report.proofs.Puts.{behind, ending_put, field_put, room_behind}
 use Rattle.report.proofs.line.put_verdict.Goals as goal
 
 pub returns-in-Explained-clause-text : goal.returns-in-Explained-clause-text
 returns-in-Explained-clause-text c =
-    ending_put (chars "explained ") (ap verdict_text c.in-Explained.is) c.from.ensures c.requires c.put_last.ensures
+    let steps = field_put _ c.from.ensures c.requires c.put_field.ensures in
+    behind steps
+    (ending_put (chars "explained ") (ap verdict_text c.in-Explained.is) c.from-in-Explained.ensures
+    (room_behind c.requires steps) c.put_last.ensures)
 
 pub returns-in-Unexplained-clause-text : goal.returns-in-Unexplained-clause-text
 returns-in-Unexplained-clause-text c =
-    ending_put (chars "unexplained ") (ap verdict_text c.in-Unexplained.is) c.from-in-Unexplained.ensures c.requires
-    c.put_last-in-Unexplained.ensures
+    let steps = field_put _ c.from.ensures c.requires c.put_field.ensures in
+    behind steps
+    (ending_put (chars "unexplained ") (ap verdict_text c.in-Unexplained.is) c.from-in-Unexplained.ensures
+    (room_behind c.requires steps) c.put_last-in-Unexplained.ensures)
 
 pub returns-in-Refused-clause-text : goal.returns-in-Refused-clause-text
 returns-in-Refused-clause-text c =
-    ending_put (chars "refused ") (ap verdict_text c.in-Refused.is) c.from-in-Refused.ensures c.requires
-    c.put_last-in-Refused.ensures
+    let steps = field_put _ c.from.ensures c.requires c.put_field.ensures in
+    behind steps
+    (ending_put (chars "refused ") (ap verdict_text c.in-Refused.is) c.from-in-Refused.ensures
+    (room_behind c.requires steps) c.put_last-in-Refused.ensures)
