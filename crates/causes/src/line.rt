@@ -53,3 +53,31 @@ impl fmt::Display for Command {
         }
     }
 }
+
+#[cfg(test)]
+mod tests {
+    use super::*;
+    use std::alloc::AllocError;
+
+    // The words of a cause as they are printed (02, a).
+    #[test]
+    fn words_are_printed(rt: HostRuntime) -> Result<(), AllocError> {
+        for (word, text) in [
+            (0x0000, "none"),
+            (0x0100, "clear"),
+            (0x0200, "LO"),
+            (0x0301, "FS 1"),
+            (0x040E, "MS 14"),
+        ] {
+            let printed = Command::from(word).to_string(rt.alloc())?;
+            assert_eq!(rt; printed.as_str(), text);
+        }
+        let conditions = Conditions {
+            n: 3,
+            word: 0b10_00_01_00,
+        };
+        let printed = conditions.to_string(rt.alloc())?;
+        assert_eq!(rt; printed.as_str(), "0102");
+        Ok(())
+    }
+}

@@ -134,3 +134,23 @@ impl fmt::Write for Page<'_> {
         Ok(())
     }
 }
+
+#[cfg(test)]
+mod tests {
+    use super::*;
+    use std::fmt::Write;
+
+    // A formatted text stands on the page as it is printed, and one without room is left out.
+    #[test]
+    fn lines_are_written(rt: HostRuntime) -> fmt::Result {
+        let mut bytes = [b'.'; 10];
+        let mut page = Page::new(&mut bytes);
+        let (step, k1) = (7, 0xA2u8);
+        writeln!(page, "{step} {k1:02X}")?;
+        page.put(b"too long");
+        page.put_last(b"", 15);
+        assert_eq!(rt; page.text(), b"7 A2\n15\n".as_slice());
+        assert_eq!(rt; bytes, *b"7 A2\n15\n..");
+        Ok(())
+    }
+}
