@@ -1,80 +1,81 @@
 // The coder over every byte: what each K1 and each K2 decodes to, and how many pairs and records come to each answer.
 ghost use Rattle.std.specs.Prelude.{◌<◌};
 
+use basics::refusal::Refusal;
+use pair::mark::Mark;
 use pair::request::rank;
-use pair::{Decoded, Encoded, Pair, decode, encode};
+use pair::{Decoded, Pair, decode, encode};
 use std::io::Write;
 use std::{fmt, io};
 
+// A cell is four wide: the rank, m and the mark, or al.
+#[derive(Drop)]
+struct Cell(Result<Decoded, Refusal>);
+
+impl fmt::Display for Cell {
+    fn fmt<W: fmt::Write>(&self, f: &mut fmt::Formatter<W>) -> fmt::Result {
+        match self.0 {
+            Ok(Decoded::Usable(p)) => write!(f, "{:>4}", rank(p.code, p.channel)),
+            Ok(Decoded::Marked(mark)) => write!(f, "  m{}", mark.number()),
+            Ok(Decoded::Alarm) => write!(f, "  al"),
+            Err(refusal) => write!(f, "  r{}", refusal.number()),
+        }
+    }
+}
+
 // The byte of the pair that a grid goes through. The other one is that of the idle pair, 00 08.
 #[derive(Clone, Copy)]
-enum Grid {
-    OfK1,
-    OfK2,
+enum Through {
+    K1,
+    K2,
+}
+
+#[derive(Clone, Copy)]
+struct Grid {
+    n: u8,
+    through: Through,
 }
 
 impl Grid {
-    fn decode(self, n: u8, byte: u8) -> Decoded {
-        match self {
-            Grid::OfK1 => decode(n, byte, 0x08),
-            Grid::OfK2 => decode(n, 0x00, byte),
+    fn cell(self, byte: u8) -> Cell {
+        match self.through {
+            Through::K1 => Cell(decode(self.n, byte, 0x08)),
+            Through::K2 => Cell(decode(self.n, 0x00, byte)),
         }
+    }
+
+    fn print_row(self, out: &mut impl Write, high: u8) -> io::Result<()>
+        requires { high < 16 }
+    {
+        write!(out, "{high:X}x")?;
+        for low in 0..16 {
+            write!(out, "{}", self.cell(high * 16 + low))?;
+        }
+        writeln!(out)
+    }
+
+    fn print(self, out: &mut impl Write) -> io::Result<()> {
+        writeln!(out, "{self}: rank, m and the mark, or al for an alarm")?;
+        write!(out, "  ")?;
+        for low in 0..16u8 {
+            write!(out, "  x{low:X}")?;
+        }
+        writeln!(out)?;
+        for high in 0..16 {
+            self.print_row(out, high)?;
+        }
+        writeln!(out)
     }
 }
 
 impl fmt::Display for Grid {
     fn fmt<W: fmt::Write>(&self, f: &mut fmt::Formatter<W>) -> fmt::Result {
-        match self {
-            Grid::OfK1 => write!(f, "each K1, with K2 = 08"),
-            Grid::OfK2 => write!(f, "each K2, with K1 = 00"),
+        let n = self.n;
+        match self.through {
+            Through::K1 => write!(f, "n = {n}: each K1, with K2 = 08"),
+            Through::K2 => write!(f, "n = {n}: each K2, with K1 = 00"),
         }
     }
-}
-
-// A cell is four wide: the rank, m and the mark, or al.
-#[derive(Drop)]
-struct Cell(Decoded);
-
-impl fmt::Display for Cell {
-    fn fmt<W: fmt::Write>(&self, f: &mut fmt::Formatter<W>) -> fmt::Result {
-        match self.0 {
-            Decoded::Usable(p) => write!(f, "{:>4}", rank(p.code, p.channel)),
-            Decoded::Marked(m) => write!(f, "  m{m}"),
-            Decoded::Alarm => write!(f, "  al"),
-            Decoded::Refused(k) => write!(f, "  r{k}"),
-        }
-    }
-}
-
-fn print_row(out: &mut impl Write, grid: Grid, n: u8, high: u8) -> io::Result<()>
-    requires { high < 16 }
-{
-    write!(out, "{high:X}x")?;
-    for low in 0..16 {
-        let cell = Cell(grid.decode(n, high * 16 + low));
-        write!(out, "{cell}")?;
-    }
-    writeln!(out)
-}
-
-fn print_heading(out: &mut impl Write) -> io::Result<()> {
-    write!(out, "  ")?;
-    for low in 0..16u8 {
-        write!(out, "  x{low:X}")?;
-    }
-    writeln!(out)
-}
-
-fn print_grid(out: &mut impl Write, grid: Grid, n: u8) -> io::Result<()> {
-    writeln!(
-        out,
-        "n = {n}: {grid}: rank, m and the mark, or al for an alarm"
-    )?;
-    print_heading(out)?;
-    for high in 0..16 {
-        print_row(out, grid, n, high)?;
-    }
-    writeln!(out)
 }
 
 // Of the pairs: how many come to each answer, and how many usable ones encode gives back. A count that reaches the end of
@@ -91,22 +92,21 @@ struct PairCounts {
 impl PairCounts {
     fn count(&mut self, n: u8, k1: u8, k2: u8) {
         match decode(n, k1, k2) {
-            Decoded::Usable(p) => {
+            Ok(Decoded::Usable(p)) => {
                 self.usable = self.usable.saturating_add(1);
-                self.given_back = self
-                    .given_back
-                    .saturating_add(u32::from(gives(n, p, k1, k2)));
+                if encode(n, p) == Ok([k1, k2]) {
+                    self.given_back = self.given_back.saturating_add(1);
+                }
             }
-            Decoded::Marked(m) => self.count_mark(m),
-            Decoded::Alarm => self.alarms = self.alarms.saturating_add(1),
-            Decoded::Refused(_) => self.refused = self.refused.saturating_add(1),
+            Ok(Decoded::Marked(mark)) => self.count_mark(mark),
+            Ok(Decoded::Alarm) => self.alarms = self.alarms.saturating_add(1),
+            Err(_) => self.refused = self.refused.saturating_add(1),
         }
     }
 
-    fn count_mark(&mut self, m: u8) {
-        if let Some(count) = self.marked.get_mut(usize::from(m).wrapping_sub(1)) {
-            *count = count.saturating_add(1);
-        }
+    fn count_mark(&mut self, mark: Mark) {
+        let at = mark as usize - 1;
+        self.marked[at] = self.marked[at].saturating_add(1);
     }
 
     fn of_all(n: u8) -> PairCounts {
@@ -130,14 +130,6 @@ impl fmt::Display for PairCounts {
     }
 }
 
-// Whether encode answers the two bytes.
-fn gives(n: u8, p: Pair, k1: u8, k2: u8) -> bool {
-    match encode(n, p) {
-        Encoded::Bytes(a, b) => [a, b] == [k1, k2],
-        Encoded::Refused(_) => false,
-    }
-}
-
 // Of the records: how many come to each answer, and the sum of the bytes.
 #[derive(Default, Drop)]
 struct RecordCounts {
@@ -150,14 +142,14 @@ struct RecordCounts {
 impl RecordCounts {
     fn count(&mut self, n: u8, p: Pair) {
         match encode(n, p) {
-            Encoded::Bytes(a, b) => {
+            Ok(bytes) => {
                 self.encoded = self.encoded.saturating_add(1);
-                self.sum = self
-                    .sum
-                    .saturating_add(u32::from(u16::from_be_bytes([a, b])));
+                self.sum = self.sum.saturating_add(u32::from(u16::from_be_bytes(bytes)));
             }
-            Encoded::Refused(1) => self.settings_refused = self.settings_refused.saturating_add(1),
-            Encoded::Refused(_) => self.record_refused = self.record_refused.saturating_add(1),
+            Err(Refusal::Sections) => {
+                self.settings_refused = self.settings_refused.saturating_add(1);
+            }
+            Err(_) => self.record_refused = self.record_refused.saturating_add(1),
         }
     }
 
@@ -232,8 +224,8 @@ fn sum_of_ranks() -> u32 {
 
 pub(crate) fn print_tables(out: &mut impl Write) -> io::Result<()> {
     for n in [2, 14] {
-        for grid in [Grid::OfK1, Grid::OfK2] {
-            print_grid(out, grid, n)?;
+        for through in [Through::K1, Through::K2] {
+            Grid { n, through }.print(out)?;
         }
     }
     print_pairs(out)?;

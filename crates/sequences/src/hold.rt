@@ -1,7 +1,8 @@
 // The setting hold (02, g): each sequence with it and then without, where rule 5 of 01 forgets what is not sent.
 use crate::sequence::Order::{Clear, ForcedSwitch, Lockout, ManualSwitch, Nothing};
-use crate::sequence::{Sequence, Settings, Step, TWO};
+use crate::sequence::{Sequence, Step, TWO};
 use anyhow::Result;
+use basics::settings::Settings;
 use std::io::Write;
 
 const SEQUENCES: &[Sequence] = &[

@@ -1,6 +1,7 @@
 // Prints what the paper's tables and sequences come to, for comparison with the stored output and with the peer.
 #![tactic(auto)]
 
+mod answer;
 mod coder;
 mod hold;
 mod refusals;

@@ -1,5 +1,8 @@
 // Refusals 1 to 7: each alone, two at once, and what of a record or of a command is refused.
-use controller::{Controller, Made, Outcome};
+use crate::answer::Answer;
+use crate::sequence::TWO;
+use basics::settings::Settings;
+use controller::Controller;
 use std::io;
 use std::io::Write;
 
@@ -32,9 +35,10 @@ fn print_all_fresh(out: &mut impl Write) -> io::Result<()> {
         (14, 16383),
     ];
     for (n, mask) in settings {
-        let refusal = match Controller::fresh(n, false, mask, 3) {
-            Made::Fresh(_) => 0,
-            Made::Refused(k) => k,
+        let settings = Settings { n, mask, ..TWO };
+        let refusal = match Controller::fresh(settings) {
+            Ok(_) => 0,
+            Err(refusal) => refusal.number(),
         };
         writeln!(out, "{n} {mask}: {refusal}")?;
     }
@@ -60,23 +64,23 @@ impl Trial {
         channel: 0,
     };
 
-    fn take(self) -> Outcome {
+    fn take(self) -> Answer {
         let conditions = [self.first, 0, 0];
         let count = if self.short { 2 } else { 3 };
-        self.controller.step(0x00, 0x08, &conditions[..count], self.command, self.channel)
+        let conditions = &conditions[..count];
+        Answer(
+            self.controller
+                .step(0x00, 0x08, conditions, self.command, self.channel),
+        )
     }
 
-    // Whether zeros and the given record are answered.
-    fn is_handed_back(self, o: Outcome) -> bool {
-        let zeros = [o.k1, o.k2, o.bridge, o.selector, o.mark, o.fate] == [0; 6];
-        zeros && same_record(self.controller, o.controller)
+    // Whether the step is refused and hands the record back.
+    fn is_handed_back(self, answer: Answer) -> bool {
+        match answer.0 {
+            Ok(_) => false,
+            Err(refused) => refused.controller == self.controller,
+        }
     }
-}
-
-fn same_record(a: Controller, b: Controller) -> bool {
-    let settings = (a.n == b.n) & (a.hold == b.hold) & (a.mask == b.mask) & (a.w == b.w);
-    let accepted = (a.k1 == b.k1) & (a.k2 == b.k2);
-    settings & accepted & (a.sent == b.sent) & (a.left == b.left) & (a.held == b.held)
 }
 
 // What a step is refused for, under the number of the refusal.
@@ -102,8 +106,7 @@ impl Fault {
         Fault::CommandChannel,
     ];
 
-    fn put_into(self, t: Trial) -> Trial {
-        let mut t = t;
+    fn put_into(self, mut t: Trial) -> Trial {
         match self {
             Fault::Sections => t.controller.n = 0,
             Fault::Mask => t.controller.mask = 32768,
@@ -127,9 +130,9 @@ fn print_faults(out: &mut impl Write) -> io::Result<()> {
         write!(out, "{}", first as u8)?;
         for second in Fault::ALL {
             let trial = second.put_into(first.put_into(Trial::GOOD));
-            let o = trial.take();
-            write!(out, " {}", o.refusal)?;
-            if trial.is_handed_back(o) {
+            let answer = trial.take();
+            write!(out, " {}", answer.refusal())?;
+            if trial.is_handed_back(answer) {
                 handed_back = handed_back.saturating_add(1);
             }
         }
@@ -144,8 +147,8 @@ fn print_record(out: &mut impl Write, s: Controller) -> io::Result<()> {
     write!(out, "{:02X} {:02X} {:02X} ", s.k1, s.k2, s.sent)?;
     let count = usize::from(s.n) + 1;
     let conditions = [0u8; 15];
-    let o = s.step(0x00, 0x08, &conditions[..count.min(15)], 0, 0);
-    writeln!(out, "{} {:02X}: {}", s.left, s.held, o.refusal)
+    let answer = Answer(s.step(0x00, 0x08, &conditions[..count.min(15)], 0, 0));
+    writeln!(out, "{} {:02X}: {}", s.left, s.held, answer.refusal())
 }
 
 fn print_by_accepted(out: &mut impl Write) -> io::Result<()> {
@@ -311,8 +314,8 @@ fn print_commands(out: &mut impl Write) -> io::Result<()> {
     for command in 0..6u8 {
         write!(out, "{command}")?;
         for channel in 0..4 {
-            let o = GOOD.step(0x00, 0x08, &[0, 0, 0], command, channel);
-            write!(out, " {}", o.refusal)?;
+            let answer = Answer(GOOD.step(0x00, 0x08, &[0, 0, 0], command, channel));
+            write!(out, " {}", answer.refusal())?;
         }
         writeln!(out)?;
     }

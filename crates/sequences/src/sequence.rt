@@ -1,16 +1,10 @@
 // A sequence of steps of one controller, and how it is printed: its settings, and a line a step.
-use anyhow::{Result, anyhow};
-use controller::{Controller, Made, Outcome};
+use crate::answer::Answer;
+use anyhow::Result;
+use basics::settings::Settings;
+use controller::Controller;
 use std::fmt;
 use std::io::Write;
-
-#[derive(Clone, Copy)]
-pub(crate) struct Settings {
-    pub n: u8,
-    pub hold: bool,
-    pub mask: u16,
-    pub w: u16,
-}
 
 // Two sections of low priority, W = 3, without hold, as most sequences have them.
 pub(crate) const TWO: Settings = Settings {
@@ -19,13 +13,6 @@ pub(crate) const TWO: Settings = Settings {
     mask: 0,
     w: 3,
 };
-
-pub(crate) fn fresh(s: Settings) -> Result<Controller> {
-    match Controller::fresh(s.n, s.hold, s.mask, s.w) {
-        Made::Fresh(controller) => Ok(controller),
-        Made::Refused(k) => Err(anyhow!("refused {k}")),
-    }
-}
 
 // The command of an operator, with the section that it names.
 #[derive(Clone, Copy)]
@@ -55,10 +42,10 @@ impl Order {
 pub(crate) struct Step(pub u8, pub u8, pub &'static [u8], pub Order);
 
 impl Step {
-    fn take(self, controller: Controller) -> Outcome {
+    fn take(self, controller: Controller) -> Answer {
         let Step(k1, k2, conditions, order) = self;
         let (command, channel) = order.numbers();
-        controller.step(k1, k2, conditions, command, channel)
+        Answer(controller.step(k1, k2, conditions, command, channel))
     }
 }
 
@@ -74,18 +61,6 @@ impl fmt::Display for Step {
     }
 }
 
-// What a step answered, as it is printed.
-#[derive(Drop)]
-struct Answer(Outcome);
-
-impl fmt::Display for Answer {
-    fn fmt<W: fmt::Write>(&self, f: &mut fmt::Formatter<W>) -> fmt::Result {
-        let o = self.0;
-        write!(f, "{} {:02X} {:02X} ", o.refusal, o.k1, o.k2)?;
-        write!(f, "{} {} {} {}", o.bridge, o.selector, o.mark, o.fate)
-    }
-}
-
 #[derive(Clone, Copy)]
 pub(crate) struct Sequence {
     pub name: &'static str,
@@ -98,11 +73,11 @@ impl Sequence {
         let Settings { n, hold, mask, w } = self.settings;
         let held = if hold { " hold" } else { "" };
         writeln!(out, "{}: n {n} mask {mask} W {w}{held}", self.name)?;
-        let mut controller = fresh(self.settings)?;
+        let mut controller = Controller::fresh(self.settings)?;
         for step in self.steps {
-            let o = step.take(controller);
-            writeln!(out, "{step}: {}", Answer(o))?;
-            controller = o.controller;
+            let answer = step.take(controller);
+            writeln!(out, "{step}: {answer}")?;
+            controller = answer.controller();
         }
         Ok(())
     }

@@ -1,7 +1,8 @@
 // The paper's sequences, and some with commands.
 use crate::sequence::Order::{Clear, ForcedSwitch, Lockout, ManualSwitch, Nothing};
-use crate::sequence::{Sequence, Settings, Step, TWO};
+use crate::sequence::{Sequence, Step, TWO};
 use anyhow::Result;
+use basics::settings::Settings;
 use std::io::Write;
 
 const THREE: Settings = Settings { n: 3, ..TWO };

@@ -1,6 +1,7 @@
 // Table 7-4 as corrected in document 003: both ends, a row a step, W = 1 so that the wait takes one row.
-use crate::sequence::{Settings, TWO, fresh};
+use crate::sequence::TWO;
 use anyhow::Result;
+use basics::settings::Settings;
 use controller::Controller;
 use std::fmt;
 use std::io::Write;
@@ -30,7 +31,7 @@ struct End {
 impl End {
     fn new() -> Result<End> {
         Ok(End {
-            controller: fresh(Settings { w: 1, ..TWO })?,
+            controller: Controller::fresh(Settings { w: 1, ..TWO })?,
             sent: Sent { k1: 0x00, k2: 0x08 },
             selector: 0,
         })
@@ -39,7 +40,10 @@ impl End {
     // A step on what the other end sent.
     fn step(self, received: Sent, conditions: &[u8]) -> Result<End> {
         let Sent { k1, k2 } = received;
-        let o = self.controller.step(k1, k2, conditions, 0, 0);
+        let o = self
+            .controller
+            .step(k1, k2, conditions, 0, 0)
+            .map_err(|refused| refused.refusal)?;
         Ok(End {
             controller: o.controller,
             sent: Sent { k1: o.k1, k2: o.k2 },

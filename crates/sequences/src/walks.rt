@@ -1,9 +1,11 @@
 // Long walks of one controller over drawn inputs, for comparison with the peer: counts, and a sum over all that is answered.
 ghost use Rattle.std.specs.Prelude.{◌≤◌, ◌<◌};
 
-use crate::sequence::{Settings, fresh};
+use crate::answer::Answer;
 use anyhow::Result;
+use basics::settings::Settings;
 use controller::{Controller, Outcome};
+use request::command::Fate;
 use std::fmt;
 use std::io::Write;
 
@@ -91,9 +93,9 @@ impl Sum {
         self.0 = (self.0 % 65521 * 31 + u64::from(value)) % 65521;
     }
 
-    fn add_outcome(&mut self, o: Outcome) {
-        for value in [o.refusal, o.k1, o.k2, o.bridge, o.selector, o.mark, o.fate] {
-            self.add(u16::from(value));
+    fn add_answer(&mut self, answer: Answer) {
+        for number in answer.numbers() {
+            self.add(u16::from(number));
         }
     }
 
@@ -121,13 +123,24 @@ struct Counts {
 
 impl Counts {
     // At the end of its type a count stays.
-    fn add(&mut self, o: Outcome) {
-        self.refused = self.refused.saturating_add(u32::from(o.refusal != 0));
-        self.taken = self.taken.saturating_add(u32::from(o.fate == 1));
-        self.denied = self.denied.saturating_add(u32::from(o.fate == 2));
-        self.marked = self.marked.saturating_add(u32::from(o.mark != 0));
-        self.sum.add_outcome(o);
-        self.sum.add_record(o.controller);
+    fn add(&mut self, answer: Answer) {
+        match answer.0 {
+            Ok(o) => self.add_taken(o),
+            Err(_) => self.refused = self.refused.saturating_add(1),
+        }
+        self.sum.add_answer(answer);
+        self.sum.add_record(answer.controller());
+    }
+
+    fn add_taken(&mut self, o: Outcome) {
+        match o.fate {
+            Fate::NoCommand => {}
+            Fate::Taken => self.taken = self.taken.saturating_add(1),
+            Fate::Denied => self.denied = self.denied.saturating_add(1),
+        }
+        if o.mark.is_some() {
+            self.marked = self.marked.saturating_add(1);
+        }
     }
 }
 
@@ -146,15 +159,16 @@ fn print_walk(out: &mut impl Write, n: u8, hold: bool) -> Result<()>
         last: u64::from(n),
     };
     let settings = draws.settings(hold);
-    let mut controller = fresh(settings)?;
+    let mut controller = Controller::fresh(settings)?;
     let mut counts = Counts::default();
     for _ in 0..STEPS {
         let (k1, k2) = draws.pair();
         let conditions = draws.conditions();
         let (command, channel) = draws.command();
-        let o = controller.step(k1, k2, &conditions[..=usize::from(n)], command, channel);
-        counts.add(o);
-        controller = o.controller;
+        let conditions = &conditions[..=usize::from(n)];
+        let answer = Answer(controller.step(k1, k2, conditions, command, channel));
+        counts.add(answer);
+        controller = answer.controller();
     }
     let Settings { mask, w, .. } = settings;
     writeln!(out, "{n} {mask} {w}: {counts}")?;
