@@ -144,7 +144,9 @@ impl RecordCounts {
         match encode(n, p) {
             Ok(bytes) => {
                 self.encoded = self.encoded.saturating_add(1);
-                self.sum = self.sum.saturating_add(u32::from(u16::from_be_bytes(bytes)));
+                self.sum = self
+                    .sum
+                    .saturating_add(u32::from(u16::from_be_bytes(bytes)));
             }
             Err(Refusal::Sections) => {
                 self.settings_refused = self.settings_refused.saturating_add(1);

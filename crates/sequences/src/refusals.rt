@@ -206,15 +206,13 @@ fn print_by_wait(out: &mut impl Write) -> io::Result<()> {
         (3, 0xE2, 0),
     ];
     for (w, sent, left) in waits {
-        print_record(
-            out,
-            Controller {
-                w,
-                sent,
-                left,
-                ..GOOD
-            },
-        )?;
+        let s = Controller {
+            w,
+            sent,
+            left,
+            ..GOOD
+        };
+        print_record(out, s)?;
     }
     Ok(())
 }
@@ -226,14 +224,12 @@ fn print_by_held(out: &mut impl Write) -> io::Result<()> {
         0x22,
     ];
     for held in held {
-        print_record(
-            out,
-            Controller {
-                hold: true,
-                held,
-                ..GOOD
-            },
-        )?;
+        let s = Controller {
+            hold: true,
+            held,
+            ..GOOD
+        };
+        print_record(out, s)?;
     }
     Ok(())
 }
@@ -250,16 +246,14 @@ fn print_held_otherwise(out: &mut impl Write) -> io::Result<()> {
         (0x61, 2, 0x81),
     ];
     for (sent, left, held) in sent_and_held {
-        print_record(
-            out,
-            Controller {
-                hold: true,
-                sent,
-                left,
-                held,
-                ..GOOD
-            },
-        )?;
+        let s = Controller {
+            hold: true,
+            sent,
+            left,
+            held,
+            ..GOOD
+        };
+        print_record(out, s)?;
     }
     Ok(())
 }
@@ -294,14 +288,12 @@ fn print_records(out: &mut impl Write) -> io::Result<()> {
     print_by_held(out)?;
     print_held_otherwise(out)?;
     for held in [0xEE, 0x8E, 0xEF] {
-        print_record(
-            out,
-            Controller {
-                hold: true,
-                held,
-                ..FOURTEEN
-            },
-        )?;
+        let s = Controller {
+            hold: true,
+            held,
+            ..FOURTEEN
+        };
+        print_record(out, s)?;
     }
     Ok(())
 }
