@@ -1,6 +1,5 @@
 // What a step answered, as it is printed, counted and summed up.
 use controller::{Controller, Outcome, RefusedStep};
-use pair::mark::Mark;
 use std::fmt;
 
 #[derive(Clone, Copy)]
@@ -26,8 +25,8 @@ impl Answer {
     pub(crate) fn numbers(self) -> [u8; 7] {
         match self.0 {
             Ok(o) => {
-                let mark = o.mark.map_or(0, Mark::number);
-                [0, o.k1, o.k2, o.bridge, o.selector, mark, o.fate.number()]
+                let fate = o.fate.number();
+                [0, o.k1, o.k2, o.bridge, o.selector, o.mark, fate]
             }
             Err(refused) => [refused.refusal.number(), 0, 0, 0, 0, 0, 0],
         }
