@@ -14,7 +14,7 @@ use Rattle.explain.specs.Scan.{all, first, scan_from}
 use Rattle.explain.specs.Trace.{live, next, Fit}
 use Rattle.explain.specs.declared.Records.{Records}
 use Rattle.explain.proofs.Followed.{followed_live}
-use Rattle.explain.proofs.Ranked.{next_fit}
+use Rattle.explain.proofs.Looks.{next_fit}
 use Rattle.basics.proofs.Rows.{rows_long, row_at_lem}
 
 -- a scan that takes in all rows leaves something open behind the first

@@ -16,7 +16,7 @@ pub mod Exact
 mod Remembering
 mod Forgetting
 pub mod Alike
-mod Ranked
+mod Looks
 mod Followed
 mod Repeating
 mod Passing

@@ -13,7 +13,7 @@ use Rattle.explain.specs.declared.Records.{Records}
 use Rattle.basics.proofs.Rows.{row_here, rows_behind}
 use Rattle.repeats.specs.Repeats.{run_of, repeated}
 use Rattle.repeats.proofs.Runs.{repeated_few, repeated_is}
-use Rattle.explain.proofs.Ranked.{next_fit}
+use Rattle.explain.proofs.Looks.{next_fit}
 use Rattle.explain.proofs.Passing.{Behind, Lasts, scan_past, passes_most, passes_last}
 
 -- behind the bytes of the steps so far

@@ -7,6 +7,11 @@ use Rattle.request.specs.Command.{replaces}
 use Rattle.request.specs.declared.Request.{Request}
 use Rattle.controller.specs.Rules.{rank_of_request, held, condition, is_wait}
 use Rattle.explain.specs.Explained.{Cause}
+use Rattle.explain.specs.declared.Ranked.{Ranked}
+
+-- a request with its rank
+abbrev pub ranked : Request → Ranked
+ranked x = record { request = x; rank = rank_of_request x }
 
 -- a command goes on, or its rank lets it replace the one that was held
 abbrev pub follows : Bool → ℕ → ℕ → Bool
@@ -42,11 +47,14 @@ arises mask command now last x = eqb x.code nothing_code || command || condition
 unfoldable pub unseen : Bool → Request → Bool
 unseen command x = eqb x.channel 0 && (eqb x.code fail_high_code || eqb x.code lockout_code && command)
 
--- it is RR to what the far end asks for, or a local request of this rank that the far end does not beat
+-- it is RR to what the far end asks for, or a local request that the far end does not beat
+abbrev pub answers_with : Ranked → Ranked → Bool → Bool
+answers_with far x local =
+    eqb x.request.code reverse_code && may_win far.rank && eqb far.request.channel x.request.channel
+    || local && not (better far.rank far.request.channel x.rank x.request.channel)
+
 abbrev pub answers_at : ℕ → Request → Request → Bool → Bool
-answers_at rank far x local =
-    eqb x.code reverse_code && may_win (rank_of_request far) && eqb far.channel x.channel
-    || local && not (better (rank_of_request far) far.channel rank x.channel)
+answers_at rank far x local = answers_with (ranked far) (record { request = x; rank = rank }) local
 
 unfoldable pub answers : Request → Request → Bool → Bool
 answers far x local = answers_at (rank_of_request x) far x local

@@ -12,10 +12,11 @@ use Rattle.controller.specs.Rules.{asked, rank_of_request, held, is_wait, left_a
 use Rattle.controller.specs.Step.{wait_of}
 use Rattle.controller.specs.declared.Controller.{Controller}
 use Rattle.basics.specs.Capture.{Row, row, rows_of}
-use Rattle.explain.specs.Cause.{commanded, arises, unseen, answers_at, answers}
+use Rattle.explain.specs.Cause.{commanded, arises, unseen, answers_with, answers_at, answers}
 use Rattle.explain.specs.Scan.{Scanned, all, first, scan_from}
 use Rattle.explain.specs.Verdict.{Judging, explained_at, unexplained_at}
 use Rattle.explain.specs.declared.Heard.{Heard}
+use Rattle.explain.specs.declared.Ranked.{Ranked}
 use Rattle.explain.specs.declared.Records.{Records}
 use Rattle.explain.specs.declared.Row.{Row as RowRead}
 
@@ -48,9 +49,15 @@ live d = d.heard || d.idle
 abbrev pub second_fits : ℕ → ℕ → Bool
 second_fits k2 bridged = eqb k2 (k2_of bridged)
 
--- the pair is sent by a controller that has accepted the K1, where that answers it
+-- the pair is sent by a controller that has accepted a K1, of this channel, where that answers it
+abbrev pub opens_to : Bool → ℕ → Request → ℕ → Bool
+opens_to answered c x k2 = answered && second_fits k2 (bridge c x.channel (keeps_bridge x))
+
+abbrev pub opens_with : Ranked → Ranked → ℕ → Bool → Bool
+opens_with far x k2 local = opens_to (answers_with far x local) far.request.channel x.request k2
+
 abbrev pub opens_by : Bool → ℕ → Request → ℕ → Bool
-opens_by answered k1 x k2 = answered && second_fits k2 (bridge (channel_of k1) x.channel (keeps_bridge x))
+opens_by answered k1 x k2 = opens_to answered (channel_of k1) x k2
 
 abbrev pub opens_at : ℕ → ℕ → Request → ℕ → Bool → Bool
 opens_at rank k1 x k2 local = opens_by (answers_at rank (asked k1) x local) k1 x k2

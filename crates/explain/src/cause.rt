@@ -1,18 +1,23 @@
 // What some cause makes the controller send (01, 'One step', rules 2 to 4, read from what was sent).
 ghost use Rattle.controller.specs.Rules.{rank_of_request, held};
-ghost use Rattle.explain.specs.Cause.{rank_held, follows, commanded_at, conditioned, waited, arises, unseen, answers_at, is_local, may_hide};
+ghost use Rattle.explain.specs.Cause.{rank_held, follows, commanded_at, conditioned, waited, arises, unseen, answers_with, is_local, may_hide};
 ghost use Rattle.std.specs.Prelude.{◌≡◌};
 
+use crate::Ranked;
 use controller::codes::{FAIL_HIGH, LOCKOUT, NOTHING, REVERSE, WAIT_TO_RESTORE};
 use controller::command::held;
 use controller::section::condition;
 use request::{Request, better, replaces};
 
-// The rank of the command that is held, if one is.
-pub(crate) fn rank_held(command: Request, rank: u8) -> u8
-    ensures { result ≡ rank_held command rank }
+// The rank of the command that is held behind what was last sent, if one is.
+pub(crate) fn rank_held(last: Ranked) -> u8
+    ensures { result ≡ rank_held (held last.request) last.rank }
 {
-    if command.code == NOTHING { 0 } else { rank }
+    if held(last.request).code == NOTHING {
+        0
+    } else {
+        last.rank
+    }
 }
 
 fn follows(goes: bool, prior: u8, rank: u8) -> bool
@@ -22,14 +27,12 @@ fn follows(goes: bool, prior: u8, rank: u8) -> bool
 }
 
 // One command a step: a clear that drops the held one leaves no room for a new one. A command that goes on was last sent.
-pub(crate) fn commanded(last: Request, prior: u8, x: Request, rank: u8) -> bool
-    requires { prior ≡ rank_of_request last }
-    ensures { result ≡ commanded_at rank (held last) (held x) }
+pub(crate) fn commanded(last: Ranked, x: Ranked) -> bool
+    requires { last.rank ≡ rank_of_request last.request }
+    ensures { result ≡ commanded_at x.rank (held last.request) (held x.request) }
 {
-    let before = held(last);
-    let after = held(x);
-    let goes_on = (x.code == last.code) & (x.channel == last.channel);
-    (after.code != NOTHING) & follows(goes_on, rank_held(before, prior), rank)
+    let goes_on = x.request == last.request;
+    (held(x.request).code != NOTHING) & follows(goes_on, rank_held(last), x.rank)
 }
 
 fn conditioned(mask: u16, x: Request) -> bool
@@ -63,12 +66,13 @@ pub(crate) fn unseen(command: bool, x: Request) -> bool
     (x.channel == 0) & ((x.code == FAIL_HIGH) | ((x.code == LOCKOUT) & command))
 }
 
-pub(crate) fn answers(far: Request, theirs: u8, x: Request, rank: u8, local: bool) -> bool
-    requires { theirs ≡ rank_of_request far }
-    ensures { result ≡ answers_at rank far x local }
+pub(crate) fn answers(far: Ranked, x: Ranked, local: bool) -> bool
+    ensures { result ≡ answers_with far x local }
 {
-    let beaten = better(theirs, far.channel, rank, x.channel);
-    let reversed = (x.code == REVERSE) & (0 < theirs) & (far.channel == x.channel);
+    let theirs = far.request;
+    let ours = x.request;
+    let beaten = better(far.rank, theirs.channel, x.rank, ours.channel);
+    let reversed = (ours.code == REVERSE) & (0 < far.rank) & (theirs.channel == ours.channel);
     reversed | (local & !beaten)
 }
 

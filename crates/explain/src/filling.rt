@@ -10,12 +10,10 @@ ghost use Rattle.pair.specs.Marks.{channel_of};
 use crate::cause::{is_local, may_hide, rank_held};
 use crate::shown::{command_word, conditions_word, deciding, louder};
 use crate::table::Table;
-use crate::trace::{heard, opens, record_after, scan};
+use crate::trace::{heard, opens, record_after, scan, wait_behind};
 use crate::{Records, Row, Verdict};
 use controller::Controller;
 use controller::asked::asked;
-use controller::command::held;
-use controller::wait::wait_of;
 use pair::mark::alarm;
 
 // The marks stand where no word of conditions has a bit: a group has no section 15.
@@ -45,12 +43,11 @@ fn command_kept(table: &Table, hold: bool, s: Controller, k1: u8, sent: u8) -> u
     requires { (channel_of s.sent ≤ 14) × (channel_of k1 ≤ 14) × (channel_of sent ≤ 14) }
     ensures { result ≡ command_kept hold s k1 sent }
 {
-    let last = asked(s.sent);
-    let x = asked(sent);
-    let now = wait_of(s, last, 0);
-    let prior = rank_held(held(last), table.rank_of(s.sent));
-    let rank = deciding(table.rank_of(k1), x, table.rank_of(sent));
-    command_word(last, x, louder(hold, rank, prior, now))
+    let last = table.asked(s.sent);
+    let x = table.asked(sent);
+    let rank = deciding(table.rank_of(k1), x);
+    let loud = louder(hold, rank, rank_held(last), wait_behind(s));
+    command_word(last.request, x.request, loud)
 }
 
 impl Records {
@@ -60,13 +57,11 @@ impl Records {
         ensures { result ≡ followed self (row_in row) }
     {
         let s = self.controller;
-        let now = wait_of(s, asked(s.sent), 0);
-        let x = asked(row.sent_k1);
-        let rank = table.rank_of(row.sent_k1);
+        let x = table.asked(row.sent_k1);
         let far = heard(table, s, row.k1, row.k2);
-        let opened = opens(far.k1, far.rank, x, rank, row.sent_k2, is_local(x));
+        let opened = opens(far.asked(), x, row.sent_k2, is_local(x.request));
         Records {
-            controller: record_after(s, now, far.k1, far.k2, row.sent_k1),
+            controller: record_after(s, wait_behind(s), far.k1, far.k2, row.sent_k1),
             heard: !alarm(row.k2) & opened & (far.fits | self.heard),
             idle: false,
         }

@@ -17,6 +17,7 @@ use crate::filling::fill;
 use crate::trace::scan;
 use basics::capture::size_refusal;
 use controller::{Controller, Made};
+use request::Request;
 
 // Explained, with the number of steps; unexplained, with the first step up to which there is no explanation; a refusal.
 #[derive(Clone, Copy)]
@@ -89,6 +90,13 @@ pub(crate) struct Records {
     pub controller: Controller,
     pub heard: bool,
     pub idle: bool,
+}
+
+// What is asked for, and its rank.
+#[derive(Clone, Copy)]
+pub(crate) struct Ranked {
+    pub request: Request,
+    pub rank: u8,
 }
 
 // A row: the pair that is received, and the one that is sent.

@@ -2,6 +2,7 @@
 ghost use Rattle.std.specs.Prelude.{◌+◌, ◌*◌, ◌^◌, ◌≤◌, ◌≡◌};
 ghost use Rattle.explain.specs.Cause.{bad_for, louder, deciding, command_number, command_for, channel_for};
 
+use crate::Ranked;
 use controller::codes::{FORCED_SWITCH, LOCKOUT, NOTHING, REVERSE, WAIT_TO_RESTORE};
 use controller::command::held;
 use controller::section::condition;
@@ -33,10 +34,14 @@ pub(crate) fn louder(hold: bool, rank: u8, prior: u8, now: u16) -> bool
     ((0 < prior) & (hold | (rank <= prior))) | ((0 < now) & (rank <= 2))
 }
 
-pub(crate) fn deciding(theirs: u8, x: Request, rank: u8) -> u8
-    ensures { result ≡ deciding theirs x rank }
+pub(crate) fn deciding(theirs: u8, x: Ranked) -> u8
+    ensures { result ≡ deciding theirs x.request x.rank }
 {
-    if x.code == REVERSE { theirs } else { rank }
+    if x.request.code == REVERSE {
+        theirs
+    } else {
+        x.rank
+    }
 }
 
 // As the paper numbers the commands: 2 LO, 3 FS, 4 MS.
@@ -55,9 +60,8 @@ pub(crate) fn command_word(last: Request, x: Request, loud: bool) -> u16
     ensures { result ≡ 256 * command_for last x loud + channel_for last x }
 {
     let commands = held(x).code != NOTHING;
-    let same = (x.code == last.code) & (x.channel == last.channel);
     let goes_on = commands | (x.code == WAIT_TO_RESTORE);
-    if commands & !same {
+    if commands & (x != last) {
         u16::from_be_bytes([command_number(x.code), x.channel])
     } else if !goes_on & loud {
         256

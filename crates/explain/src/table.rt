@@ -1,10 +1,13 @@
 // The table of K1 values, which says of each what it asks for and who may send it.
 ghost use Rattle.std.specs.Prelude.{◌≤◌, ◌≡◌};
 ghost use Rattle.controller.specs.Rules.{rank_of_request, asked};
+ghost use Rattle.explain.specs.Cause.{ranked};
 ghost use Rattle.pair.specs.Marks.{channel_of};
 ghost use Rattle.pair.specs.Request.{requests};
 ghost use Rattle.pair.specs.Table.{table_of, number_for};
 
+use crate::Ranked;
+use controller::asked::asked;
 use pair::table::{numbers, rank_in};
 
 // The compiler lays a constant out anew wherever one is used, so it is taken once.
@@ -31,5 +34,16 @@ impl Table {
         ensures { result ≡ rank_of_request (asked k1) }
     {
         rank_in(self.number(k1))
+    }
+
+    // What it asks for, with that rank.
+    pub(crate) fn asked(&self, k1: u8) -> Ranked
+        requires { channel_of k1 ≤ 14 }
+        ensures { result ≡ ranked (asked k1) }
+    {
+        Ranked {
+            request: asked(k1),
+            rank: self.rank_of(k1),
+        }
     }
 }

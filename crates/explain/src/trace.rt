@@ -2,14 +2,15 @@
 ghost use Rattle.std.specs.Prelude.{◌+◌, ◌≤◌, ◌<◌, ◌%◌, length, true, ◌≡◌};
 ghost use Rattle.basics.specs.Capture.{row_at, most};
 ghost use Rattle.basics.specs.Settings.{sections_fit};
-ghost use Rattle.controller.specs.Rules.{rank_of_request, asked};
-ghost use Rattle.explain.specs.Trace.{row_in, start, live, second_fits, opens_at, record_after, accepted_byte, heard_by, next, passes, passed, Fit, scanned};
+ghost use Rattle.controller.specs.Rules.{asked};
+ghost use Rattle.controller.specs.Step.{wait_of};
+ghost use Rattle.explain.specs.Trace.{row_in, start, live, second_fits, opens_with, record_after, accepted_byte, heard_by, next, passes, passed, Fit, scanned};
 ghost use Rattle.explain.specs.Verdict.{told};
 ghost use Rattle.pair.specs.Marks.{channel_of};
 
 use crate::cause::{answers, arises, commanded, unseen};
 use crate::table::Table;
-use crate::{Heard, Records, Row, Verdict};
+use crate::{Heard, Ranked, Records, Row, Verdict};
 use controller::Controller;
 use controller::asked::asked;
 use controller::codes::{NOTHING, WAIT_TO_RESTORE};
@@ -17,7 +18,7 @@ use controller::wait::wait_of;
 use pair::mark::{alarm, second_usable};
 use pair::table::{rank_in, usable_in};
 use repeats::repeated;
-use request::{Request, bridge};
+use request::bridge;
 
 impl Row {
     // The row of the four bytes from a place on.
@@ -41,13 +42,20 @@ fn second_fits(k2: u8, bridged: u8) -> bool
     u16::from(k2) == u16::from(bridged) * 16 + 0b1000
 }
 
-pub(crate) fn opens(k1: u8, theirs: u8, x: Request, rank: u8, k2: u8, local: bool) -> bool
-    requires { theirs ≡ rank_of_request (asked k1) }
-    ensures { result ≡ opens_at rank k1 x k2 local }
+pub(crate) fn opens(far: Ranked, x: Ranked, k2: u8, local: bool) -> bool
+    ensures { result ≡ opens_with far x k2 local }
 {
-    let far = asked(k1);
-    let bridged = bridge(far.channel, x.channel, x.code == NOTHING);
-    answers(far, theirs, x, rank, local) & second_fits(k2, bridged)
+    let theirs = far.request;
+    let ours = x.request;
+    let bridged = bridge(theirs.channel, ours.channel, ours.code == NOTHING);
+    answers(far, x, local) & second_fits(k2, bridged)
+}
+
+// The wait of the step behind the record, where no clear is given.
+pub(crate) fn wait_behind(s: Controller) -> u16
+    ensures { result ≡ wait_of s (asked s.sent) 0 }
+{
+    wait_of(s, asked(s.sent), 0)
 }
 
 // The K1 last sent and the wait left follow from what was sent.
@@ -69,6 +77,17 @@ fn accepted_byte(fits: bool, received: u8, before: u8) -> u8
     ensures { result ≡ accepted_byte fits received before }
 {
     if fits { received } else { before }
+}
+
+impl Heard {
+    pub(crate) fn asked(self) -> Ranked
+        ensures { result ≡ record { request = asked self.k1; rank = self.rank } }
+    {
+        Ranked {
+            request: asked(self.k1),
+            rank: self.rank,
+        }
+    }
 }
 
 // One look for the received K1.
@@ -105,19 +124,22 @@ impl Records {
         ensures { result ≡ next self (row_in row) }
     {
         let s = self.controller;
-        let last = asked(s.sent);
-        let x = asked(row.sent_k1);
-        let sent = table.number(row.sent_k1);
-        let carried = usable_in(sent, s.n);
-        let rank = rank_in(sent);
-        let now = wait_of(s, last, 0);
-        let command = commanded(last, table.rank_of(s.sent), x, rank);
-        let local = arises(s.mask, command, now, last, x);
-        let hidden = unseen(command, x) & second_fits(row.sent_k2, 0);
+        let last = table.asked(s.sent);
+        let number = table.number(row.sent_k1);
+        let carried = usable_in(number, s.n);
+        let request = asked(row.sent_k1);
+        let x = Ranked {
+            request,
+            rank: rank_in(number),
+        };
+        let now = wait_behind(s);
+        let command = commanded(last, x);
+        let local = arises(s.mask, command, now, last.request, request);
+        let hidden = unseen(command, request) & second_fits(row.sent_k2, 0);
         let far = heard(table, s, row.k1, row.k2);
-        let opened = opens(far.k1, far.rank, x, rank, row.sent_k2, local);
-        let idle = Controller::IDLE_K1;
-        let opened_idle = opens(idle, table.rank_of(idle), x, rank, row.sent_k2, local);
+        let opened = opens(far.asked(), x, row.sent_k2, local);
+        let idle = table.asked(Controller::IDLE_K1);
+        let opened_idle = opens(idle, x, row.sent_k2, local);
         // A row with an alarm is one with section 0 failed (02, c).
         let quiet = !alarm(row.k2);
         // The flags of the step before come last, so that no step waits for another.
@@ -141,10 +163,8 @@ impl Records {
         ensures { result ≡ passes self run }
     {
         let s = self.controller;
-        let last = asked(s.sent);
-        let now = wait_of(s, last, 0);
-        if last.code == WAIT_TO_RESTORE {
-            now.min(run as u16)
+        if asked(s.sent).code == WAIT_TO_RESTORE {
+            wait_behind(s).min(run as u16)
         } else {
             run as u16
         }

@@ -34,8 +34,9 @@ sent_held last x rank = go (is_command x.code) (is_command last.code) refl refl
 pub returns : goal.returns
 returns c =
     let a = c.args in
-    let was = c.held-before.ensures in
-    let after = c.held-after.ensures in
-    let prior = c.rank_held.ensures ∙ (λ i. rank_held (was i) (c.requires i)) ∙ held_rank a.last in
-    let followed = c.follows.ensures ∙ (λ i. follows (same a.x a.last) (prior i) a.rank) in
-    (λ i. not (eqb (after i).code nothing_code) && followed i) ∙ sent_held a.last a.x a.rank
+    let x = a.x.request in
+    let last = a.last.request in
+    let prior = c.rank_held.ensures ∙ (λ i. rank_held (held last) (c.requires i)) ∙ held_rank last in
+    let followed =
+    c.follows.ensures ∙ (λ i. follows (c.eq-goes_on.ensures i) (prior i) a.x.rank) in
+    (λ i. not (eqb (c.held.ensures i).code nothing_code) && followed i) ∙ sent_held last x a.x.rank

@@ -5,7 +5,7 @@ use Rattle.pair.specs.Table.{value_in, usable_in}
 use Rattle.pair.proofs.Coding.{usable_test}
 use Rattle.pair.proofs.Looking.{usable_looked}
 use Rattle.explain.specs.Trace.{accepted_byte}
-use Rattle.explain.proofs.Ranked.{accepted_rank}
+use Rattle.explain.proofs.Looks.{accepted_rank}
 use Rattle.explain.proofs.trace.heard.Goals as goal
 
 pub returns : goal.returns

@@ -1,4 +1,4 @@
-use Rattle.explain.proofs.Ranked.{look_rank}
+use Rattle.explain.proofs.Looks.{look_rank}
 use Rattle.explain.proofs.table.Table.rank_of.Goals as goal
 
 pub returns : goal.returns

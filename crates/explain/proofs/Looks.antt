@@ -2,13 +2,11 @@
 -- for.
 use mathlib.Core.Path.{◌≡◌, refl}
 use mathlib.Core.Bool.{Bool, true, false, false≢true}
-use mathlib.Core.List.{List}
-use Prim.Native.Nat.{ℕ, ◌≤◌, ◌<◌}
-use lib.ListN.{get_or}
+use Prim.Native.Nat.{ℕ, ◌≤◌}
 use Rattle.pair.specs.Request.{requests, rank_of}
 use Rattle.pair.specs.Marks.{code_of, channel_of, usable}
-use Rattle.pair.specs.Table.{table_of, usable_for, usable_in, value_in, number_for}
-use Rattle.pair.proofs.Looking.{number_at, usable_looked, carried_most, rank_looked}
+use Rattle.pair.specs.Table.{usable_for, value_in, number_for}
+use Rattle.pair.proofs.Looking.{carried_most, rank_looked}
 use Rattle.pair.proofs.Coding.{usable_parts}
 use Rattle.request.specs.declared.Request.{Request}
 use Rattle.controller.specs.Rules.{asked, is_command, held, rank_of_request}
@@ -17,15 +15,9 @@ use Rattle.basics.specs.Capture.{Row}
 use Rattle.basics.specs.Settings.{sections_fit}
 use Rattle.explain.specs.Cause.{commanded_at, commanded, answers}
 use Rattle.explain.specs.Trace.{live, opens_at, accepted_byte, heard_by, next_with, next, Fit}
+use Rattle.explain.specs.declared.Heard.{Heard}
+use Rattle.explain.specs.declared.Ranked.{Ranked}
 use Rattle.explain.specs.declared.Records.{Records}
-
--- a look at the table gives the number of a K1, which says whether a group has it
-pub looked : {table : List ℕ} → table ≡ table_of requests → (k1 : ℕ) → k1 < 256 → get_or table k1 0 ≡ number_for requests k1
-looked same k1 below = rw same (number_at requests k1 below)
-
-pub looked_usable : {table : List ℕ} → table ≡ table_of requests → (k1 n : ℕ) → k1 < 256 → sections_fit n ≡ true
-    → usable_in (get_or table k1 0) n ≡ usable_for requests k1 n
-looked_usable same k1 n below sections = rw (looked same k1 below) (usable_looked requests k1 n sections)
 
 usable_channel : (k1 n : ℕ) → sections_fit n ≡ true → usable_for requests k1 n ≡ true → channel_of k1 ≤ 14
 usable_channel k1 n sections e = carried_most requests n (code_of k1) (channel_of k1) sections e
@@ -34,6 +26,10 @@ usable_channel k1 n sections e = carried_most requests n (code_of k1) (channel_o
 pub look_rank : (k1 : ℕ) → channel_of k1 ≤ 14 → (value_in (number_for requests k1)).rank ≡ rank_of_request (asked k1)
 unfolding rank_of
 look_rank k1 within = rank_looked requests k1 within
+
+-- what an accepted pair asks for
+abbrev pub asked_by : Heard → Ranked
+asked_by far = record { request = asked far.k1; rank = far.rank }
 
 -- of a request that is no command it does not matter which rank it has
 pub command_ranked : (prior x : Request) → commanded_at (rank_of_request x) prior (held x) ≡ commanded prior (held x)
