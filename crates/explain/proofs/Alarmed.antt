@@ -12,7 +12,7 @@ use Rattle.controller.specs.Settings.{idle_k1, idle_k2}
 use Rattle.controller.specs.Refusals.{conditions_fit}
 use Rattle.controller.specs.Step.{protection, step}
 use Rattle.controller.specs.declared.Controller.{Controller}
-use Rattle.controller.specs.declared.Outcome.{Outcome}
+use Rattle.controller.specs.Step.{Stepped}
 use Rattle.controller.proofs.Inputs.{WellFormed, well_formed}
 use Rattle.controller.proofs.Alarm.{alarm_step}
 use Rattle.controller.proofs.Keeping.{unrefused}
@@ -72,7 +72,7 @@ module _ (s : Controller) (r : Row) (loud : alarm s.n r.k1 r.k2 ≡ true) where
           first = rw same sends.first;
           second = rw same sends.second;
         },
-        is ∙ ap (λ (o : Outcome). o.controller) (sym same),
+        is ∙ ap (λ (o : Stepped). o.controller) (sym same),
       )
 
   -- some cause leads to a record by the row; one with section 0 failed leads to it by the other
@@ -99,7 +99,7 @@ module _ (s : Controller) (r : Row) (loud : alarm s.n r.k1 r.k2 ≡ true) where
               first = rw same at sends.first;
               second = rw same at sends.second;
             },
-            is ∙ ap (λ (o : Outcome). o.controller) same,
+            is ∙ ap (λ (o : Stepped). o.controller) same,
           )
 
       backward : LeadsFailed u → Leads u

@@ -10,8 +10,8 @@ use native.Mathlib.Omega.{arith}
 use lib.Dec.{ltb, eqb}
 use lib.ListN.{length, take}
 use lib.Seq.{take_all, take-take}
-use borrow.Author.Tests.{ltb-true, ltb-false}
-use Rattle.std.specs.Prelude.{if◌then◌else◌}
+use borrow.Author.Tests.{ltb-true, ltb-false, ne_eqb}
+use Rattle.std.specs.Prelude.{if◌then◌else◌, Result, Ok, Err}
 use Rattle.basics.specs.First.{Check, first_of}
 use Rattle.basics.specs.Settings.{sections_fit, mask_fits}
 use Rattle.controller.specs.Settings.{fresh}
@@ -23,6 +23,9 @@ use Rattle.explain.specs.Verdict.{Judging, explained_at, unexplained_at, told, j
 use Rattle.explain.specs.Scan.{Scanned, all, first, scan_from}
 use Rattle.explain.specs.Trace.{start, live, next, verdict_of}
 use Rattle.explain.specs.declared.Records.{Records}
+use Rattle.basics.specs.Refusal.{refusal_number, refusal_with}
+use Rattle.basics.specs.declared.refusal.Refusal.{Refusal}
+use Rattle.basics.proofs.Refusals.{number_some, with_number}
 use Rattle.explain.specs.declared.Verdict.{Verdict}
 use Rattle.explain.specs.declared.Verdict.TheVariants as verdict
 use Rattle.explain.proofs.Scanning.{Run, run_prefix, From, good_next, Says, scan_exact}
@@ -190,17 +193,16 @@ first_within n hold mask w rows i some none = go (ltb i (length rows)) refl
         let further : length rows ≤ i + 1 = omega arith in
         absurd (none (subst (Explained n hold mask w) (take_all i rows past ∙ sym (take_all (i + 1) rows further)) some))
 
--- the numbers decide the case of the enum
-abbrev case_of : Judging → Verdict
+-- the numbers decide the answer
+abbrev case_of : Judging → Result Verdict Refusal
 case_of j =
-    if eqb j.verdict 1 then verdict.Explained j.at
-    else if eqb j.verdict 2 then verdict.Unexplained j.at
-    else verdict.Refused j.refusal
+    if eqb j.refusal 0 then (if eqb j.verdict 1 then Ok (verdict.Explained j.at) else Ok (verdict.Unexplained j.at))
+    else Err (refusal_with j.refusal)
 
-case_told : (v : Verdict) → case_of (told v) ≡ v
-case_told (verdict.Explained k) = refl
-case_told (verdict.Unexplained i) = refl
-case_told (verdict.Refused k) = refl
+case_told : (v : Result Verdict Refusal) → case_of (told v) ≡ v
+case_told (Ok (verdict.Explained k)) = refl
+case_told (Ok (verdict.Unexplained i)) = refl
+case_told (Err e) = rw (ne_eqb (refusal_number e) 0 (number_some e), with_number e)
 
-pub told_one : (a b : Verdict) → told a ≡ told b → a ≡ b
+pub told_one : (a b : Result Verdict Refusal) → told a ≡ told b → a ≡ b
 told_one a b h = sym (case_told a) ∙ ap case_of h ∙ case_told b

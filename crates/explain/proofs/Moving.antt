@@ -16,7 +16,7 @@ use Rattle.controller.specs.Rules.{decided, held_after, left_after, keeps_bridge
 use Rattle.controller.specs.Refusals.{acceptable, channel_fits}
 use Rattle.controller.specs.Step.{protection, wait_of, moved, acts_on}
 use Rattle.controller.specs.declared.Controller.{Controller}
-use Rattle.controller.specs.declared.Outcome.{Outcome}
+use Rattle.controller.specs.Step.{Stepped}
 use Rattle.controller.proofs.Inputs.{WellFormed, well_formed}
 use Rattle.controller.proofs.Sendable.{Sendable, sendable_room}
 use Rattle.controller.proofs.Sending.{sent_sendable}
@@ -72,7 +72,7 @@ module _ (s : Controller) (k1 k2 : ℕ) (acts : List ℕ) where
     abbrev pub sent_in : Request
     sent_in = sent_with stands_in now_in
 
-    pub record Moves (o : Outcome) : Type 0 where
+    pub record Moves (o : Stepped) : Type 0 where
       pub first : o.k1 ≡ k1_of sent_in
       pub second : o.k2 ≡ k2_of (bridge far_in.channel sent_in.channel (keeps_bridge sent_in))
       pub after :

@@ -22,7 +22,7 @@ use Rattle.controller.specs.Rules.{local_request, decided, held_after, left_afte
 use Rattle.controller.specs.Refusals.{acceptable}
 use Rattle.controller.specs.Step.{protection, wait_of, moved}
 use Rattle.controller.specs.declared.Controller.{Controller}
-use Rattle.controller.specs.declared.Outcome.{Outcome}
+use Rattle.controller.specs.Step.{Stepped}
 use Rattle.controller.proofs.Inputs.{WellFormed, well_formed}
 use Rattle.controller.proofs.Sendable.{Sendable, sendable_room}
 use Rattle.controller.proofs.Sending.{sent_sendable}
@@ -82,7 +82,7 @@ module _ (s : Controller) (r : Row) (able : Able s) (quiet : alarm s.n r.k1 r.k2
     now = wait_of s last cause.command
 
     -- what a step that is not refused answers
-    record Answered (failed : Bool) (o : Outcome) : Type 0 where
+    record Answered (failed : Bool) (o : Stepped) : Type 0 where
       first : o.k1 ≡ k1_of (decided (far failed) near)
       second :
           o.k2

@@ -72,12 +72,12 @@ causes_unique κs args x y s t p q = told_one x y (verdict_one p q)
 -- explained, and else not from the entry behind the last step on.
 conditions_unique :
     OneSeen 3 causes-kinds.ps causes-kinds.r causes-fn.Post (λ κs. List ℕ)
-    (λ κs x exit. fixed_in (told x) exit.1.1.1.1.1.0.now)
+    (λ κs x exit. fixed_in (told x) exit.1.1.0.now)
 conditions_unique κs args x y s t p q = (fixed_one p q).0
 
 commands_unique :
     OneSeen 3 causes-kinds.ps causes-kinds.r causes-fn.Post (λ κs. List ℕ)
-    (λ κs x exit. fixed_in (told x) exit.1.1.1.1.1.1.0.now)
+    (λ κs x exit. fixed_in (told x) exit.1.1.1.0.now)
 commands_unique κs args x y s t p q = (fixed_one p q).1
 
 -- What is shown: of an explained capture, causes under which the controller's own step, from a fresh record, sends its rows;

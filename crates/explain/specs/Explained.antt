@@ -3,7 +3,7 @@ use Rattle.std.specs.Prelude.{◌≡◌, Bool, List, [], ◌∷◌, ℕ}
 use Rattle.controller.specs.Settings.{fresh}
 use Rattle.controller.specs.Step.{step}
 use Rattle.controller.specs.declared.Controller.{Controller}
-use Rattle.controller.specs.declared.Outcome.{Outcome}
+use Rattle.controller.specs.Step.{Stepped}
 use Rattle.basics.specs.Capture.{Row}
 
 -- what nobody sees of a step: the condition of each section, and one command with its channel
@@ -13,11 +13,11 @@ pub record Cause : Type 0 where
   pub channel : ℕ
 
 -- the controller's own step: it receives the bytes of the row, under the cause
-abbrev pub stepped : Controller → Cause → Row → Outcome
+abbrev pub stepped : Controller → Cause → Row → Stepped
 stepped s cause r = step s r.k1 r.k2 cause.conditions cause.command cause.channel
 
 -- the step is not refused, and sends precisely the bytes of the row
-pub record Sends (o : Outcome) (r : Row) : Type 0 where
+pub record Sends (o : Stepped) (r : Row) : Type 0 where
   pub not_refused : o.refusal ≡ 0
   pub first : o.k1 ≡ r.sent_k1
   pub second : o.k2 ≡ r.sent_k2

@@ -1,6 +1,8 @@
 -- What the judge answers (01, 'The judge' and 'Numbered refusals'; 02, g).
-use Rattle.std.specs.Prelude.{cond, ◌≡◌, Bool, List, ◌++◌, ◌⊎◌, ℕ, ◌+◌, eqb, length, take}
+use Rattle.std.specs.Prelude.{cond, ◌≡◌, Bool, Result, Ok, Err, List, ◌++◌, ◌⊎◌, ℕ, ◌+◌, eqb, length, take}
 use Rattle.basics.specs.First.{Check, first_of}
+use Rattle.basics.specs.Refusal.{refusal_number}
+use Rattle.basics.specs.declared.refusal.Refusal.{Refusal}
 use Rattle.controller.specs.Settings.{settings_faults}
 use Rattle.basics.specs.Capture.{Row, rows_of, size_faults}
 use Rattle.explain.specs.Explained.{Explained}
@@ -23,11 +25,11 @@ unexplained_at i = record { refusal = 0; verdict = 2; at = i }
 abbrev pub refused_by : ℕ → Judging
 refused_by k = record { refusal = k; verdict = 0; at = 0 }
 
--- the numbers that each case of the enum stands for
-abbrev pub told : Verdict → Judging
-told (verdict.Explained k) = explained_at k
-told (verdict.Unexplained i) = unexplained_at i
-told (verdict.Refused k) = refused_by k
+-- the numbers that each answer stands for
+abbrev pub told : Result Verdict Refusal → Judging
+told (Ok (verdict.Explained k)) = explained_at k
+told (Ok (verdict.Unexplained i)) = unexplained_at i
+told (Err e) = refused_by (refusal_number e)
 
 -- refusals 1, 2, 8, 9, in this order
 abbrev pub judge_faults : ℕ → ℕ → ℕ → List Check

@@ -128,11 +128,11 @@ fn settle(idle: bool, steps: usize, conditions: &mut [u32])
 
 // Nothing is written unless all steps are explained.
 fn filled_steps(verdict: Verdict, steps: usize) -> usize
-    ensures { result ≡ filled_steps (told verdict) steps }
+    ensures { result ≡ filled_steps (told (Ok verdict)) steps }
 {
     match verdict {
         Verdict::Explained(_) => steps,
-        _ => 0,
+        Verdict::Unexplained(_) => 0,
     }
 }
 
@@ -145,8 +145,8 @@ pub(crate) fn fill(
     commands: &mut [u16],
 ) -> Verdict
     requires { (length capture.now % 4 ≡ 0) × (length capture.now ≤ most) × Fit (start s) × (length capture.now / 4 ≤ length conditions.old) × (length capture.now / 4 ≤ length commands.old) }
-    ensures result_value { told result ≡ scanned s capture.now }
-    ensures fills { Fills hold (start s) (take (filled_steps (told result) (length capture.now / 4)) (rows_of capture.now)) conditions.old commands.old conditions.new commands.new }
+    ensures result_value { told (Ok result) ≡ scanned s capture.now }
+    ensures fills { Fills hold (start s) (take (filled_steps (told (Ok result)) (length capture.now / 4)) (rows_of capture.now)) conditions.old commands.old conditions.new commands.new }
 {
     let steps = capture.len() / 4;
     let verdict = scan(s, capture);

@@ -10,78 +10,64 @@ mod trace;
 ghost use Rattle.std.specs.Prelude.{◌/◌, ◌++◌, ◌≡◌};
 ghost use Rattle.basics.specs.Capture.{size_faults};
 ghost use Rattle.basics.specs.First.{first_of};
+ghost use Rattle.basics.specs.Refusal.{refusal_told};
 ghost use Rattle.explain.specs.Causes.{room_faults, Causes};
 ghost use Rattle.explain.specs.Verdict.{told, Right};
 
 use crate::filling::fill;
 use crate::trace::scan;
 use basics::capture::size_refusal;
-use controller::{Controller, Made};
+use basics::refusal::Refusal;
+use basics::settings::Settings;
+use controller::Controller;
 use request::Request;
 
-// Explained, with the number of steps; unexplained, with the first step up to which there is no explanation; a refusal.
-#[derive(Clone, Copy)]
+// Explained, with the number of steps; or unexplained, with the first step up to which there is no explanation.
+#[derive(Clone, Copy, Debug, PartialEq, Eq)]
 pub enum Verdict {
     Explained(u16),
     Unexplained(u16),
-    Refused(u8),
 }
 
 // Hold changes no verdict (`hold_exact` at the front door), so the scan goes by the controller without it.
-pub fn judge(n: u8, hold: bool, mask: u16, w: u16, capture: &[u8]) -> Verdict
-    ensures { Right n hold mask w capture.now (told result) }
+pub fn judge(settings: Settings, capture: &[u8]) -> Result<Verdict, Refusal>
+    ensures { Right settings.n settings.hold settings.mask settings.w capture.now (told result) }
 {
-    match Controller::fresh(n, false, mask, w) {
-        Made::Fresh(s) => {
-            let refusal = size_refusal(capture.len());
-            if refusal == 0 {
-                scan(s, capture)
-            } else {
-                Verdict::Refused(refusal)
-            }
-        }
-        Made::Refused(k) => Verdict::Refused(k),
-    }
+    let s = Controller::fresh(Settings {
+        hold: false,
+        ..settings
+    })?;
+    size_refusal(capture.len())?;
+    Ok(scan(s, capture))
 }
 
 // Refusals 8, 9, and 11 for a table that is shorter than the steps.
-fn causes_refusal(size: usize, room: usize, room2: usize) -> u8
-    ensures { result ≡ first_of (size_faults size ++ room_faults (size / 4) room room2) }
+fn causes_refusal(size: usize, room: usize, room2: usize) -> Result<(), Refusal>
+    ensures { refusal_told result ≡ first_of (size_faults size ++ room_faults (size / 4) room room2) }
 {
-    let refusal = size_refusal(size);
+    size_refusal(size)?;
     let steps = size / 4;
-    if refusal != 0 {
-        return refusal;
-    }
     if (room < steps) | (room2 < steps) {
-        return 11;
+        return Err(Refusal::CausesRoom);
     }
-    0
+    Ok(())
 }
 
 // The judge, which fills the tables of a capture that is explained with causes, one a step (02, a).
 pub fn judge_causes(
-    n: u8,
-    hold: bool,
-    mask: u16,
-    w: u16,
+    settings: Settings,
     capture: &[u8],
     conditions: &mut [u32],
     commands: &mut [u16],
-) -> Verdict
-    ensures { Causes n hold mask w capture.now conditions.old commands.old (told result) conditions.new commands.new }
+) -> Result<Verdict, Refusal>
+    ensures { Causes settings.n settings.hold settings.mask settings.w capture.now conditions.old commands.old (told result) conditions.new commands.new }
 {
-    match Controller::fresh(n, false, mask, w) {
-        Made::Fresh(s) => {
-            let refusal = causes_refusal(capture.len(), conditions.len(), commands.len());
-            if refusal == 0 {
-                fill(hold, s, capture, conditions, commands)
-            } else {
-                Verdict::Refused(refusal)
-            }
-        }
-        Made::Refused(k) => Verdict::Refused(k),
-    }
+    let s = Controller::fresh(Settings {
+        hold: false,
+        ..settings
+    })?;
+    causes_refusal(capture.len(), conditions.len(), commands.len())?;
+    Ok(fill(settings.hold, s, capture, conditions, commands))
 }
 
 // The records that the bytes so far leave open: this one, if `heard`, and this one with the idle pair accepted, if `idle`.

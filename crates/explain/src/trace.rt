@@ -184,7 +184,7 @@ impl Records {
 
 pub(crate) fn scan(s: Controller, capture: &[u8]) -> Verdict
     requires { (length capture.now % 4 ≡ 0) × (length capture.now ≤ most) × Fit (start s) }
-    ensures { told result ≡ scanned s capture.now }
+    ensures { told (Ok result) ≡ scanned s capture.now }
 {
     let table = Table::new();
     let mut possible = Records::start(s);
