@@ -2,22 +2,14 @@
 use mathlib.Core.Path.{◌≡◌, refl, sym, ap, ◌∙◌}
 use mathlib.Core.Bool.{Bool, true, false}
 use mathlib.Core.List.{List, [], ◌∷◌, ◌++◌, append_assoc}
-use Prim.Native.Nat.{ℕ, ◌+◌, ◌-◌, ◌≤◌, ◌<◌}
+use Prim.Native.Nat.{ℕ, ◌+◌, ◌≤◌, ◌<◌}
 use native.Mathlib.Omega.{arith}
 use lib.Dec.{leb}
-use lib.ListN.{length, take, drop, length-append, length-drop}
+use lib.ListN.{length, take, drop, length-append}
 use lib.Seq.{sets, sets-eq, length-sets, drop-drop}
 use borrow.Author.Tests.{leb-true, leb-false, le-leb, lt-leb}
-use Rattle.basics.proofs.Bytes.{rest_part, back, lent, copied, sets_joined}
+use Rattle.basics.proofs.Bytes.{sets_joined}
 use Rattle.page.specs.Text.{with_text, text_end, with_texts, texts_end, joined, line_start}
-
--- the room at a place is what is left of the page there
-pub left_over : (size at more : ℕ) → at ≤ size → leb more (size - at) ≡ leb (at + more) size
-left_over size at more h = go (leb more (size - at)) refl
-  where
-    go : (t : Bool) → leb more (size - at) ≡ t → t ≡ leb (at + more) size
-    go true e = sym (le-leb (at + more) size (omega (arith, leb-true more (size - at) e)))
-    go false e = sym (lt-leb (at + more) size (omega (arith, leb-false more (size - at) e)))
 
 module _ (page : List ℕ) (at : ℕ) (text : List ℕ) where
   module _ (room : at + length text ≤ length page) where
@@ -31,18 +23,6 @@ module _ (page : List ℕ) (at : ℕ) (text : List ℕ) where
 
     pub text_stands : with_text page at text ≡ take at page ++ text ++ drop (at + length text) page
     text_stands = text_put ∙ sets-eq text page at room
-
-    -- the part of the page from the place on, to which the text is copied
-    abbrev rest : List ℕ
-    rest = take (length page - at) (drop at page)
-
-    pub rest_room : length text ≤ length rest
-    rest_room = rw (rest_part at page, length-drop at page) (omega arith)
-
-    pub text_copied : (after : List ℕ) → after ≡ take (length text) text ++ drop (length text) rest
-        → back page at after ≡ with_text page at text
-    text_copied after e =
-        lent page after text at room (e ∙ copied text rest rest_room) ∙ sym text_put
 
     -- the part of the page that the text fills, holding the text
     pub text_filled : (part : List ℕ) (size : ℕ) → size ≡ length text → part ≡ text
@@ -66,19 +46,6 @@ module _ (page : List ℕ) (at : ℕ) (text : List ℕ) where
       go true e =
           ap length (text_put (leb-true (at + length text) (length page) e)) ∙ length-sets page at text
       go false e = ap length (text_dropped (leb-false (at + length text) (length page) e))
-
--- what was put, told of the text under another name
-pub retold : (page after text other : List ℕ) (at end : ℕ) → text ≡ other
-    → (end ≡ text_end page at text) × (after ≡ with_text page at text)
-    → (end ≡ text_end page at other) × (after ≡ with_text page at other)
-retold page after text other at end e put = rw e at put
-
--- a text was put, and then more of them where it ends
-pub behind : (page between after : List ℕ) (at next end : ℕ) (text : List ℕ) (more : List (List ℕ))
-    → (next ≡ text_end page at text) × (between ≡ with_text page at text)
-    → (end ≡ texts_end between next more) × (after ≡ with_texts between next more)
-    → (end ≡ texts_end page at (text ∷ more)) × (after ≡ with_texts page at (text ∷ more))
-behind page between after at next end text more first rest = rw (first.0, first.1) at rest
 
 -- two texts, the second where the first ends, are one
 pub texts_one : (page : List ℕ) (at : ℕ) (first second : List ℕ) → at + length (first ++ second) ≤ length page

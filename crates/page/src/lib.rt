@@ -22,13 +22,6 @@ pub struct Page<'a> {
     pub at: usize,
 }
 
-// Whether so many bytes have room at a place. (The sum of the two may be too large for a usize.)
-fn has_room(size: usize, at: usize, more: usize) -> bool
-    ensures { result ≡ leb (at + more) size }
-{
-    at <= size && more <= size - at
-}
-
 fn digit(d: u8) -> u8
     requires { d < 16 }
     ensures { result ≡ digit_of d }
@@ -52,10 +45,17 @@ impl<'a> Page<'a> {
         Page { bytes, at: 0 }
     }
 
+    // Whether so many bytes have room at the place. (The sum of the two may be too large for a usize.)
+    fn has_room(&self, more: usize) -> bool
+        ensures { result ≡ leb (self.now.at + more) (length self.now.bytes.now) }
+    {
+        self.at <= self.bytes.len() && more <= self.bytes.len() - self.at
+    }
+
     pub fn put(&mut self, text: &[u8])
         ensures { Puts self.old text.now self.new }
     {
-        if has_room(self.bytes.len(), self.at, text.len()) {
+        if self.has_room(text.len()) {
             let end = self.at + text.len();
             self.bytes[self.at..end].copy_from_slice(text);
             self.at = end;
@@ -101,7 +101,7 @@ impl<'a> Page<'a> {
         ensures page_kept { self.new.bytes.now ≡ self.old.bytes.now }
         ensures same_reference { self.new.bytes.ghost_name ≡ self.old.bytes.ghost_name }
     {
-        if !has_room(self.bytes.len(), self.at, longest) {
+        if !self.has_room(longest) {
             self.write_out();
         }
     }

@@ -38,9 +38,6 @@ module _ {page : Page} {book : List ℕ} {contents : Contents} (opened : Opened 
   contents_are : contents ≡ record { count = count_in book; entries = places (entries_of book) }
   contents_are = opened.read ∙ ap (λ (r : Reading). r.contents) (accepted book opened.unrefused)
 
-  pub count_is : contents.count ≡ length (entries_of book)
-  count_is = ap (λ (c : Contents). c.count) contents_are ∙ sym (length_entries (count_in book) (drop 2 book))
-
   pub few : contents.count ≤ 64
   few = rw contents_are ((book_exact book).0 opened.unrefused).few
 
