@@ -20,7 +20,7 @@ use Rattle.explain.specs.declared.Verdict.{Verdict}
 use Rattle.page.specs.Page.{PutsEach}
 use Rattle.page.specs.Text.{last}
 use Rattle.page.specs.declared.Page.{Page}
-use Rattle.report.specs.Put.{Room, Put}
+use Rattle.report.specs.Put.{Room}
 use Rattle.report.specs.Table.{chars, header, ending, lines_text, AreVerdicts, IsTable, Printed}
 use Rattle.report.proofs.Captures.{both_fit, judged_within}
 use Rattle.report.proofs.Longest.{AllFit, captures_short, refused_short}
@@ -129,19 +129,16 @@ printed_one {book} {before} {after' = after'} {answer' = answer'} p q =
     (p.page ∙ sym told.0, p.long ∙ sym told.1)
 
 -- the line of a refused book has room, and is its table
-pub refused_room : (page : List ℕ) (number : ℕ) → 2048 ≤ length page → Room page 0 (ending (chars "refused ") number)
-refused_room page number large = let short = refused_short number in record { fits = omega arith }
-
 pub refused_printed : {page after : Page} {book : List ℕ} {number shown : ℕ} → 2048 ≤ length page.bytes.now → page.at ≡ 0
     → number ≡ refusal book → (number ≡ 0 → ⊥) → shown ≡ number → PutsEach page (last (chars "refused ") shown) after
     → Printed book page.bytes.now after.bytes.now after.at
 refused_printed {page} {after} {book} {number} large start same some told put =
-    let room = refused_room page.bytes.now number large in
-    let stands : Put page.bytes.now page.at (ending (chars "refused ") number) after.bytes.now after.at =
-    ending_put (chars "refused ") refl told (rw start room) put in
-    let printed = from_start room (rw start at stands) in
+    let text = ending (chars "refused ") number in
+    let short = refused_short number in
+    let room : Room page text = record { fits = omega (arith, start) } in
+    let printed = from_start start room (ending_put (chars "refused ") refl told room put) in
     record {
-      text = ending (chars "refused ") number;
+      text = text;
       table = rw same (refused_table book (λ none. some (same ∙ none)));
       page = printed.0;
       long = printed.1;

@@ -1,13 +1,11 @@
--- Captures one after the other: what is still to be put, at the place that has been reached, completes the lines.
+-- Captures one after the other: what is still to be put completes the table.
 use mathlib.Core.Path.{◌≡◌, refl, sym, ap, subst, ◌∙◌}
-use mathlib.Core.List.{List, [], ◌++◌}
+use mathlib.Core.List.{List, [], ◌++◌, append_assoc, append-nil}
 use Prim.Native.Nat.{ℕ, ◌+◌, ◌-◌, ◌≤◌, ◌<◌}
-use native.Mathlib.Nat.{add-zero}
 use native.Mathlib.Numerals.{add-one}
 use native.Mathlib.Omega.{arith}
-use lib.ListN.{length, get_or, take, drop, replicate, length-append, drop_of_length-le}
-use lib.Seq.{sets, drop-cons, take_at}
-use Rattle.basics.proofs.Bytes.{sets_joined}
+use lib.ListN.{length, get_or, take, drop, replicate, drop_of_length-le}
+use lib.Seq.{drop-cons, take_at}
 use Rattle.book.specs.Format.{count_in, entries_of, places, no_entry}
 use Rattle.book.specs.declared.Contents.{Contents}
 use Rattle.book.specs.declared.Entry.{Entry}
@@ -16,22 +14,11 @@ use Rattle.book.proofs.Entries.{length_entries, accepted}
 use Rattle.book.proofs.Ordered.{book_exact}
 use Rattle.explain.specs.declared.Verdict.{Verdict}
 use Rattle.page.specs.declared.Page.{Page}
-use Rattle.report.specs.Put.{Room, Put, LineRoom, PutLine, Opened}
-use Rattle.report.specs.Table.{header, line_text, lines_text, IsVerdict, Printed}
-use Rattle.report.proofs.Puts.{put_long, behind, from_start}
+use Rattle.report.specs.Put.{Room, Put, LineRoom, PutLine, Opened, PutTable}
+use Rattle.report.specs.Table.{header, line_text, lines_text, IsVerdict}
+use Rattle.report.proofs.Puts.{room_as, put_as, behind, room_first, room_behind, from_start}
 use Rattle.report.proofs.Tables.{table_of, read_table, read_short}
 use Rattle.report.proofs.Verdicts.{verdicts, judged_some, judged_one}
-
--- what is left of two texts once the first is put
-left_over : {page between final first second : List ℕ} {at next end : ℕ} → Put page at first between next
-    → Put page at (first ++ second) final end → Put between next second final end
-left_over {page} {between} {final} {first} {second} {at} p whole =
-    let long = length-append first second in
-    let joined = sets_joined first second page between (sets between (at + length first) second) at p.stands refl in
-    record {
-      stands = whole.stands ∙ sym joined ∙ ap (λ (k : ℕ). sets between k second) (sym p.ends);
-      ends = whole.ends ∙ omega (arith, p.ends);
-    }
 
 -- the contents that were read are the book's entries, and places behind them
 module _ {page : Page} {book : List ℕ} {contents : Contents} (opened : Opened page book contents) where
@@ -47,7 +34,7 @@ module _ {page : Page} {book : List ℕ} {contents : Contents} (opened : Opened 
       ∙ take_at (entries_of book) (replicate (64 - length (entries_of book)) no_entry) (count_in book)
       (length_entries (count_in book) (drop 2 book))
 
-  pub table_room : Room page.bytes.now page.at (table_of book)
+  pub table_room : Room page (table_of book)
   table_room =
       let short = read_short book opened.unrefused in record { fits = omega (arith, opened.large, opened.start) }
 
@@ -56,66 +43,59 @@ module _ (book : List ℕ) where
   abbrev pub rest : ℕ → List ℕ
   rest i = let entries = drop i (entries_of book) in lines_text i entries (verdicts book entries)
 
-  pub record Walk (start : List ℕ) (from : ℕ) (page : List ℕ) (at i : ℕ) : Type 0 where
-    pub within : i ≤ length (entries_of book)
-    pub room : Room start from (rest 0)
-    pub same : length page ≡ length start
-    pub left : Put page at (rest i) (sets start from (rest 0)) (from + length (rest 0))
+  -- what is put, and what is left, is the table
+  pub record Walk (start page : Page) (i : ℕ) : Type 0 where
+    pub done : List ℕ
+    pub whole : done ++ rest i ≡ table_of book
+    pub put : Put start done page
+    pub room : Room page (rest i)
 
-  pub walk_start : (start : List ℕ) (from : ℕ) → Room start from (rest 0) → Walk start from start from 0
-  walk_start start from room =
-      record { within = omega arith; room = room; same = refl; left = record { stands = refl; ends = refl } }
+  pub walk_start : {start page : Page} → Room start (table_of book) → Put start header page → Walk start page 0
+  walk_start room head = record { done = header; whole = refl; put = head; room = room_behind room head }
 
-  module _ (start : List ℕ) (from : ℕ) (page : List ℕ) (at i : ℕ) (walk : Walk start from page at i) where
-    abbrev told : List ℕ → Type 0
-    told text = Put page at text (sets start from (rest 0)) (from + length (rest 0))
-
+  module _ {start page : Page} {i : ℕ} (walk : Walk start page i) where
     module _ (h : i < length (entries_of book)) where
       abbrev entry : Entry
       entry = get_or (entries_of book) i no_entry
 
-      rest_next : (v : Verdict) → IsVerdict book entry v → rest i ≡ line_text i entry v ++ rest (i + 1)
+      rest_next : (v : Verdict) → IsVerdict book entry v → line_text i entry v ++ rest (i + 1) ≡ rest i
       rest_next v right =
-          ap (λ (es : List Entry). lines_text i es (verdicts book es)) (drop-cons (entries_of book) i no_entry h)
-          ∙ rw (add-one i, judged_one book entry v (judged_some book entry).0 right (judged_some book entry).1)
+          sym
+          (ap (λ (es : List Entry). lines_text i es (verdicts book es)) (drop-cons (entries_of book) i no_entry h)
+          ∙ rw (add-one i, judged_one book entry v (judged_some book entry).0 right (judged_some book entry).1))
 
       -- `e` is the entry as the code has it
-      pub walk_room : (e : Entry) → e ≡ entry → LineRoom page at book i e
-      walk_room e same = subst (LineRoom page at book i) (sym same) room
-        where
-          room : LineRoom page at book i entry
-          room v right =
-              let long = length-append (line_text i entry v) (rest (i + 1)) in
-              let text = ap length (rest_next v right) in
-              record { fits = omega (arith, walk.left.ends, walk.room.fits, walk.same) }
+      pub walk_room : (e : Entry) → e ≡ entry → LineRoom page book i e
+      walk_room e same =
+          subst (LineRoom page book i) (sym same) (λ v right. room_first (rest (i + 1)) (room_as (rest_next v right) walk.room))
 
-      pub walk_next : {after : List ℕ} {end : ℕ} (e : Entry) → e ≡ entry → PutLine page at book i e after end
-          → Walk start from after end (i + 1)
-      walk_next {after} {end} e same line =
-          go (subst (λ (e : Entry). PutLine page at book i e after end) same line)
+      pub walk_next : {after : Page} (e : Entry) → e ≡ entry → PutLine page book i e after → Walk start after (i + 1)
+      walk_next {after} e same line = go (subst (λ (e : Entry). PutLine page book i e after) same line)
         where
-          go : PutLine page at book i entry after end → Walk start from after end (i + 1)
+          go : PutLine page book i entry after → Walk start after (i + 1)
           go line =
+              let text = line_text i entry line.verdict in
+              let next = rest_next line.verdict line.right in
               record {
-                within = omega arith;
-                room = walk.room;
-                same = put_long line.put ∙ walk.same;
-                left = left_over line.put (subst told (rest_next line.verdict line.right) walk.left);
+                done = walk.done ++ text;
+                whole =
+                    append_assoc walk.done text (rest (i + 1)) ∙ ap (λ (t : List ℕ). walk.done ++ t) next ∙ walk.whole;
+                put = behind walk.put line.put;
+                room = room_behind (room_as next walk.room) line.put;
               }
 
-    pub walk_done : length (entries_of book) ≤ i → Put start from (rest 0) page at
+    pub walk_done : length (entries_of book) ≤ i → Put start (table_of book) page
     walk_done end =
         let nothing : rest i ≡ [] =
         ap (λ (es : List Entry). lines_text i es (verdicts book es)) (drop_of_length-le (entries_of book) {i = i} end) in
-        let last = subst told nothing walk.left in
-        record { stands = sym last.stands; ends = sym (last.ends ∙ add-zero at) }
+        put_as (sym (append-nil walk.done) ∙ ap (λ (t : List ℕ). walk.done ++ t) (sym nothing) ∙ walk.whole) walk.put
 
 -- the header and the lines are the table
-pub lines_printed : {page : Page} {book between after : List ℕ} {contents : Contents} {next end : ℕ} → Opened page book contents
-    → Put page.bytes.now page.at header between next → Put between next (rest book 0) after end
-    → Printed book page.bytes.now after end
-lines_printed {page} {book = book} {after = after} {end = end} opened head lines =
-    let room = rw opened.start at (table_room opened) in
-    let whole : Put page.bytes.now 0 (table_of book) after end = rw opened.start at (behind head lines) in
-    let told = from_start room whole in
-    record { text = table_of book; table = read_table book opened.unrefused; page = told.0; long = told.1 }
+pub lines_printed : {page after : Page} {book : List ℕ} {contents : Contents} → Opened page book contents
+    → Put page (table_of book) after → PutTable page book after
+lines_printed {book = book} opened lines =
+    let told = from_start opened.start (table_room opened) lines in
+    record {
+      printed = record { text = table_of book; table = read_table book opened.unrefused; page = told.0; long = told.1 };
+      same = lines.same;
+    }

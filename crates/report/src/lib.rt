@@ -3,9 +3,8 @@
 
 mod line;
 
-ghost use Rattle.report.specs.Put.{Opened};
+ghost use Rattle.report.specs.Put.{Opened, PutTable};
 ghost use Rattle.report.specs.Table.{Printed};
-ghost use Rattle.std.specs.Prelude.{◌≡◌};
 
 use crate::line::put_capture;
 use book::{Contents, read};
@@ -14,8 +13,7 @@ use page::Page;
 // The header, and a line for each capture of a book that was read.
 fn put_captures(page: &mut Page<'_>, book: &[u8], contents: Contents)
     requires { Opened page.old book.now contents }
-    ensures printed { Printed book.now page.old.bytes.now page.new.bytes.now page.new.at }
-    ensures same_reference { page.new.bytes.ghost_name ≡ page.old.bytes.ghost_name }
+    ensures { PutTable page.old book.now page.new }
 {
     page.put(b"capture sections steps verdict at\n");
     let count = contents.count as usize;

@@ -1,7 +1,7 @@
 // The line of a capture. Each function asks for the room.
 ghost use Rattle.report.specs.Put.{Room, Put, LineRoom, PutLine};
 ghost use Rattle.report.specs.Table.{field, verdict_text};
-ghost use Rattle.std.specs.Prelude.{◌≡◌, ◌++◌};
+ghost use Rattle.std.specs.Prelude.{◌++◌};
 
 use book::{Entry, body, hold_in};
 use explain::{Verdict, judge};
@@ -10,9 +10,8 @@ use page::Page;
 // The steps of a capture, and its verdict. The last case does not come up: no capture of a book that was read is refused by the
 // judge (`captures_judged`). The judge has it for its other callers.
 fn put_verdict(page: &mut Page<'_>, steps: u16, verdict: Verdict)
-    requires { Room page.old.bytes.now page.old.at (field steps ++ verdict_text verdict) }
-    ensures text { Put page.old.bytes.now page.old.at (field steps ++ verdict_text verdict) page.new.bytes.now page.new.at }
-    ensures same_reference { page.new.bytes.ghost_name ≡ page.old.bytes.ghost_name }
+    requires { Room page.old (field steps ++ verdict_text verdict) }
+    ensures { Put page.old (field steps ++ verdict_text verdict) page.new }
 {
     page.put_field(u64::from(steps));
     match verdict {
@@ -24,9 +23,8 @@ fn put_verdict(page: &mut Page<'_>, steps: u16, verdict: Verdict)
 
 // The line of the capture with that number.
 pub(crate) fn put_capture(page: &mut Page<'_>, book: &[u8], number: usize, e: Entry)
-    requires { LineRoom page.old.bytes.now page.old.at book.now number e }
-    ensures line { PutLine page.old.bytes.now page.old.at book.now number e page.new.bytes.now page.new.at }
-    ensures same_reference { page.new.bytes.ghost_name ≡ page.old.bytes.ghost_name }
+    requires { LineRoom page.old book.now number e }
+    ensures { PutLine page.old book.now number e page.new }
 {
     let verdict = judge(e.n, hold_in(e), e.mask, e.w, body(book, e));
     page.put_field(number as u64);

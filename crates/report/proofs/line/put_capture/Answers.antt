@@ -13,12 +13,12 @@ put_verdict-requires c =
     let first = field_put _ refl all c.put_field.ensures in
     room_behind (room_behind all first) (field_put _ c.from.ensures (room_behind all first) c.put_field-2.ensures)
 
-pub returns-clause-line : goal.returns-clause-line
+pub returns : goal.returns
 unfolding line_text
-returns-clause-line c =
+returns c =
     let v = c.judge-verdict.result in
     let right : IsVerdict c.args.book.now c.args.e v = rw (c.body.ensures, c.hold_in.ensures) at c.judge-verdict.ensures in
     let all = c.requires v right in
     let first = field_put _ refl all c.put_field.ensures in
     let second = field_put _ c.from.ensures (room_behind all first) c.put_field-2.ensures in
-    record { verdict = v; right = right; put = behind first (behind second c.put_verdict.ensures.text) }
+    record { verdict = v; right = right; put = behind first (behind second c.put_verdict.ensures) }

@@ -4,22 +4,22 @@ use Rattle.report.specs.Table.{chars, verdict_text}
 use Rattle.report.proofs.Puts.{behind, ending_put, field_put, room_behind}
 use Rattle.report.proofs.line.put_verdict.Goals as goal
 
-pub returns-in-Explained-clause-text : goal.returns-in-Explained-clause-text
-returns-in-Explained-clause-text c =
+pub returns-in-Explained : goal.returns-in-Explained
+returns-in-Explained c =
     let steps = field_put _ c.from.ensures c.requires c.put_field.ensures in
     behind steps
     (ending_put (chars "explained ") (ap verdict_text c.in-Explained.is) c.from-in-Explained.ensures
     (room_behind c.requires steps) c.put_last.ensures)
 
-pub returns-in-Unexplained-clause-text : goal.returns-in-Unexplained-clause-text
-returns-in-Unexplained-clause-text c =
+pub returns-in-Unexplained : goal.returns-in-Unexplained
+returns-in-Unexplained c =
     let steps = field_put _ c.from.ensures c.requires c.put_field.ensures in
     behind steps
     (ending_put (chars "unexplained ") (ap verdict_text c.in-Unexplained.is) c.from-in-Unexplained.ensures
     (room_behind c.requires steps) c.put_last-in-Unexplained.ensures)
 
-pub returns-in-Refused-clause-text : goal.returns-in-Refused-clause-text
-returns-in-Refused-clause-text c =
+pub returns-in-Refused : goal.returns-in-Refused
+returns-in-Refused c =
     let steps = field_put _ c.from.ensures c.requires c.put_field.ensures in
     behind steps
     (ending_put (chars "refused ") (ap verdict_text c.in-Refused.is) c.from-in-Refused.ensures
