@@ -1,5 +1,5 @@
 // The setting hold (02, g): each sequence with it and then without, where rule 5 of 01 forgets what is not sent.
-use crate::sequence::Order::{Clear, ForcedSwitch, Lockout, ManualSwitch, Nothing};
+use crate::sequence::Order::{Clear, ForcedSwitch, Lockout, ManualSwitch};
 use crate::sequence::{Sequence, Step, TWO};
 use anyhow::Result;
 use basics::settings::Settings;
@@ -11,10 +11,10 @@ const SEQUENCES: &[Sequence] = &[
         name: "a forced switch under a failed section 0",
         settings: TWO,
         steps: &[
-            Step(0x00, 0x08, &[0, 0, 0], ForcedSwitch(1)),
-            Step(0x00, 0x08, &[2, 0, 0], Nothing),
-            Step(0x00, 0x08, &[2, 0, 0], Nothing),
-            Step(0x00, 0x08, &[0, 0, 0], Nothing),
+            Step(0x00, 0x08, &[0, 0, 0], Some(ForcedSwitch(1))),
+            Step(0x00, 0x08, &[2, 0, 0], None),
+            Step(0x00, 0x08, &[2, 0, 0], None),
+            Step(0x00, 0x08, &[0, 0, 0], None),
         ],
     },
     // With hold, a new command is taken though it is not sent; once the section is good the command outranks the wait, and
@@ -23,10 +23,10 @@ const SEQUENCES: &[Sequence] = &[
         name: "a manual switch behind a failed section",
         settings: TWO,
         steps: &[
-            Step(0x00, 0x08, &[0, 2, 0], ManualSwitch(2)),
-            Step(0x00, 0x08, &[0, 2, 0], Nothing),
-            Step(0x00, 0x08, &[0, 0, 0], Nothing),
-            Step(0x00, 0x08, &[0, 0, 0], Nothing),
+            Step(0x00, 0x08, &[0, 2, 0], Some(ManualSwitch(2))),
+            Step(0x00, 0x08, &[0, 2, 0], None),
+            Step(0x00, 0x08, &[0, 0, 0], None),
+            Step(0x00, 0x08, &[0, 0, 0], None),
         ],
     },
     // One command is held, not a pile of them: what the lockout replaced is gone after the clear, with either setting.
@@ -34,10 +34,10 @@ const SEQUENCES: &[Sequence] = &[
         name: "a lockout over a forced switch",
         settings: TWO,
         steps: &[
-            Step(0x00, 0x08, &[0, 0, 0], ForcedSwitch(1)),
-            Step(0x00, 0x08, &[0, 0, 0], Lockout),
-            Step(0x00, 0x08, &[0, 0, 0], Clear),
-            Step(0x00, 0x08, &[0, 0, 0], Nothing),
+            Step(0x00, 0x08, &[0, 0, 0], Some(ForcedSwitch(1))),
+            Step(0x00, 0x08, &[0, 0, 0], Some(Lockout)),
+            Step(0x00, 0x08, &[0, 0, 0], Some(Clear)),
+            Step(0x00, 0x08, &[0, 0, 0], None),
         ],
     },
     // With hold, a command that is not sent still stands in the way of one of its rank, and gives way to one of higher rank.
@@ -45,11 +45,11 @@ const SEQUENCES: &[Sequence] = &[
         name: "a second command while the first is overridden",
         settings: TWO,
         steps: &[
-            Step(0x00, 0x08, &[0, 0, 0], ManualSwitch(1)),
-            Step(0x00, 0x08, &[2, 0, 0], ManualSwitch(2)),
-            Step(0x00, 0x08, &[2, 0, 0], ForcedSwitch(2)),
-            Step(0x00, 0x08, &[0, 0, 0], Nothing),
-            Step(0x00, 0x08, &[0, 0, 0], Clear),
+            Step(0x00, 0x08, &[0, 0, 0], Some(ManualSwitch(1))),
+            Step(0x00, 0x08, &[2, 0, 0], Some(ManualSwitch(2))),
+            Step(0x00, 0x08, &[2, 0, 0], Some(ForcedSwitch(2))),
+            Step(0x00, 0x08, &[0, 0, 0], None),
+            Step(0x00, 0x08, &[0, 0, 0], Some(Clear)),
         ],
     },
 ];

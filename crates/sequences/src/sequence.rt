@@ -14,10 +14,9 @@ pub(crate) const TWO: Settings = Settings {
     w: 3,
 };
 
-// The command of an operator, with the section that it names.
+// A command, with the section that it names.
 #[derive(Clone, Copy)]
 pub(crate) enum Order {
-    Nothing,
     Clear,
     Lockout,
     ForcedSwitch(u8),
@@ -28,7 +27,6 @@ impl Order {
     // The command and the channel, as a step is handed them.
     fn numbers(self) -> (u8, u8) {
         match self {
-            Order::Nothing => (0, 0),
             Order::Clear => (1, 0),
             Order::Lockout => (2, 0),
             Order::ForcedSwitch(c) => (3, c),
@@ -37,26 +35,30 @@ impl Order {
     }
 }
 
-// What a step is handed: the received pair, the conditions and the command.
+// What a step is handed: the received pair, the conditions, and the command if there is one.
 #[derive(Clone, Copy)]
-pub(crate) struct Step(pub u8, pub u8, pub &'static [u8], pub Order);
+pub(crate) struct Step(pub u8, pub u8, pub &'static [u8], pub Option<Order>);
 
 impl Step {
+    fn command(self) -> (u8, u8) {
+        self.3.map_or((0, 0), |order| order.numbers())
+    }
+
     fn take(self, controller: Controller) -> Answer {
-        let Step(k1, k2, conditions, order) = self;
-        let (command, channel) = order.numbers();
+        let Step(k1, k2, conditions, _) = self;
+        let (command, channel) = self.command();
         Answer(controller.step(k1, k2, conditions, command, channel))
     }
 }
 
 impl fmt::Display for Step {
     fn fmt<W: fmt::Write>(&self, f: &mut fmt::Formatter<W>) -> fmt::Result {
-        let Step(k1, k2, conditions, order) = *self;
+        let Step(k1, k2, conditions, _) = *self;
         write!(f, "{k1:02X} {k2:02X} ")?;
         for condition in conditions {
             write!(f, "{condition}")?;
         }
-        let (command, channel) = order.numbers();
+        let (command, channel) = self.command();
         write!(f, " {command} {channel}")
     }
 }
