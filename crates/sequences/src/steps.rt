@@ -7,6 +7,11 @@ use std::io::Write;
 
 const THREE: Settings = Settings { n: 3, ..TWO };
 
+// Section 14 of fourteen.
+const FAILED: &[u8] = &[0, 0, 0, 0, 0, 0, 0, 0, 0, 0, 0, 0, 0, 0, 2];
+
+const DEGRADED: &[u8] = &[0, 0, 0, 0, 0, 0, 0, 0, 0, 0, 0, 0, 0, 0, 1];
+
 const SEQUENCES: &[Sequence] = &[
     Sequence {
         name: "P1",
@@ -162,24 +167,9 @@ const SEQUENCES: &[Sequence] = &[
             ..TWO
         },
         steps: &[
-            Step(
-                0x00,
-                0x08,
-                &[0, 0, 0, 0, 0, 0, 0, 0, 0, 0, 0, 0, 0, 0, 2],
-                Nothing,
-            ),
-            Step(
-                0x2E,
-                0xE8,
-                &[0, 0, 0, 0, 0, 0, 0, 0, 0, 0, 0, 0, 0, 0, 2],
-                Nothing,
-            ),
-            Step(
-                0x2E,
-                0xE8,
-                &[0, 0, 0, 0, 0, 0, 0, 0, 0, 0, 0, 0, 0, 0, 1],
-                Nothing,
-            ),
+            Step(0x00, 0x08, FAILED, None),
+            Step(0x2E, 0xE8, FAILED, None),
+            Step(0x2E, 0xE8, DEGRADED, None),
             Step(0x2E, 0xE8, &[0; 15], None),
             Step(0xAF, 0x08, &[0; 15], None),
             Step(0xEE, 0xE8, &[0; 15], None),
