@@ -3,6 +3,7 @@
 pub mod Settings
 pub mod Rules
 pub mod Refusals
+pub mod Command
 pub mod Step
 pub mod Run
 pub mod Sequences

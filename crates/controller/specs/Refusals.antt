@@ -46,6 +46,9 @@ conditions_fit (x ∷ rest) = leb x 2 && conditions_fit rest
 abbrev pub channel_fits : ℕ → ℕ → ℕ → Bool
 channel_fits n command c = if leb command 2 then eqb c 0 else leb 1 c && leb c n
 
+abbrev pub command_faults : ℕ → ℕ → ℕ → List Check
+command_faults n command c = (6 when ltb 4 command) ∷ (7 when not (channel_fits n command c)) ∷ []
+
 -- in the paper's order
 abbrev pub step_faults : Controller → List ℕ → ℕ → ℕ → List Check
 step_faults s conditions command c =
@@ -53,9 +56,7 @@ step_faults s conditions command c =
     ++ ((3 when not (acceptable s))
     ∷ (4 when not (eqb (length conditions) (s.n + 1)))
     ∷ (5 when not (conditions_fit conditions))
-    ∷ (6 when ltb 4 command)
-    ∷ (7 when not (channel_fits s.n command c))
-    ∷ [])
+    ∷ command_faults s.n command c)
 
 unfoldable pub refusal : Controller → List ℕ → ℕ → ℕ → ℕ
 refusal s conditions command c = first_of (step_faults s conditions command c)

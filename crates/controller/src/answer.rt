@@ -1,5 +1,6 @@
 // What a step answers (01, 'One step').
 ghost use Rattle.std.specs.Prelude.{◌≤◌, ◌≡◌};
+ghost use Rattle.controller.specs.Command.{command_number, command_channel};
 ghost use Rattle.controller.specs.Refusals.{refusal};
 ghost use Rattle.controller.specs.Rules.{FitsK1, keeps_bridge};
 ghost use Rattle.controller.specs.Step.{outcome_told, answering, moved, acts_on};
@@ -9,7 +10,7 @@ ghost use Rattle.request.specs.Command.{fate_number};
 use crate::acceptance::accepting;
 use crate::asked::{asked, k1_of};
 use crate::codes::NOTHING;
-use crate::command::{Commands, counts, held_after};
+use crate::command::{Command, Commands, counts, held_after};
 use crate::local::{decided, local_request};
 use crate::numbered::Received;
 use crate::section::protection;
@@ -62,24 +63,23 @@ pub(crate) fn moved(
     s: Controller,
     received: Received,
     conditions: &[u8],
-    command: u8,
-    c: u8,
+    command: Command,
 ) -> Outcome
-    requires { refusal s conditions.now command c ≡ 0 }
-    ensures { outcome_told result ≡ moved s received.k1 received.k2 (acts_on (alarm s.n received.k1 received.k2) conditions.now) command c }
+    requires { refusal s conditions.now (command_number command) (command_channel command) ≡ 0 }
+    ensures { outcome_told result ≡ moved s received.k1 received.k2 (acts_on (alarm s.n received.k1 received.k2) conditions.now) (command_number command) (command_channel command) }
 {
     let handed = conditions[0];
     let protect = protection(alarm(received.k2), handed);
     let last = asked(s.sent);
     let far = accepting(s, protect == 2, received);
-    let commands = Commands::of(s, last, command, c);
+    let commands = Commands::of(s, last, command);
     let stands = commands.stands;
     let held = held_after(s.hold, stands.request);
-    let now = wait_of(s, last, command);
+    let now = wait_of(s, last, command.number());
     let wait = waiting(now, last);
     let near = local_request(s.mask, last, protect, conditions, stands, wait);
     let sent = decided(far.request, near);
     let counted = counts(s.hold, sent, commands.new);
-    let fate = fate(command, commands.replaced, counted);
+    let fate = fate(command.number(), commands.replaced, counted);
     answering(s, far, sent, now, held, fate)
 }

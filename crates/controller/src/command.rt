@@ -1,12 +1,66 @@
 // The held command and a new one (01, 'One step', rules 2 and 5; 02, g).
+ghost use Rattle.basics.specs.First.{first_of};
+ghost use Rattle.basics.specs.Refusal.{refusal_told};
+ghost use Rattle.controller.specs.Command.{command_number, command_channel};
+ghost use Rattle.controller.specs.Refusals.{command_faults};
 ghost use Rattle.controller.specs.Rules.{FitsK1, is_command, held, held_by, kept, given, replaces_held, in_force, held_after, counts};
-ghost use Rattle.std.specs.Prelude.{◌≡◌};
+ghost use Rattle.std.specs.Prelude.{IfOk, ◌≡◌};
 
 use crate::Controller;
 use crate::asked::{asked, k1_of};
 use crate::codes::{FORCED_SWITCH, LOCKOUT, MANUAL_SWITCH, NO_REQUEST};
 use crate::ranked::RankedRequest;
+use basics::refusal::Refusal;
 use request::{Request, replaces};
+
+// A command of a step, FS and MS with their section.
+#[derive(Clone, Copy, Debug, PartialEq, Eq)]
+pub enum Command {
+    None,
+    Clear,
+    Lockout,
+    Forced(u8),
+    Manual(u8),
+}
+
+impl Command {
+    // What a number and a channel stand for, with n sections.
+    pub(crate) fn read(n: u8, number: u8, channel: u8) -> Result<Command, Refusal>
+        ensures refused { refusal_told result ≡ first_of (command_faults n number channel) }
+        ensures read { IfOk result (λ command. (command_number command ≡ number) × (command_channel command ≡ channel)) }
+    {
+        let command = match number {
+            0 => Command::None,
+            1 => Command::Clear,
+            2 => Command::Lockout,
+            3 => Command::Forced(channel),
+            4 => Command::Manual(channel),
+            _ => return Err(Refusal::Command),
+        };
+        let fits = match command {
+            Command::Forced(c) | Command::Manual(c) => 1 <= c && c <= n,
+            _ => channel == 0,
+        };
+        if fits {
+            Ok(command)
+        } else {
+            Err(Refusal::CommandChannel)
+        }
+    }
+
+    // The paper's number of it.
+    pub fn number(self) -> u8
+        ensures { result ≡ command_number self }
+    {
+        match self {
+            Command::None => 0,
+            Command::Clear => 1,
+            Command::Lockout => 2,
+            Command::Forced(_) => 3,
+            Command::Manual(_) => 4,
+        }
+    }
+}
 
 pub(crate) fn is_command(code: u8) -> bool
     ensures { result ≡ is_command code }
@@ -30,29 +84,33 @@ fn held_by(hold: bool, k1: u8, last: Request) -> Request
     if hold { asked(k1) } else { held(last) }
 }
 
-fn kept(command: u8, prior: Request) -> Request
-    ensures { result ≡ kept command prior }
+fn kept(command: Command, prior: Request) -> Request
+    ensures { result ≡ kept (command_number command) prior }
 {
-    if command == 1 { NO_REQUEST } else { prior }
+    if command == Command::Clear {
+        NO_REQUEST
+    } else {
+        prior
+    }
 }
 
-fn given(command: u8, c: u8) -> Request
-    ensures { result ≡ given command c }
+fn given(command: Command) -> Request
+    ensures { result ≡ given (command_number command) (command_channel command) }
 {
     match command {
-        2 => Request {
+        Command::None | Command::Clear => NO_REQUEST,
+        Command::Lockout => Request {
             code: LOCKOUT,
             channel: 0,
         },
-        3 => Request {
+        Command::Forced(channel) => Request {
             code: FORCED_SWITCH,
-            channel: c,
+            channel,
         },
-        4 => Request {
+        Command::Manual(channel) => Request {
             code: MANUAL_SWITCH,
-            channel: c,
+            channel,
         },
-        _ => NO_REQUEST,
     }
 }
 
@@ -66,13 +124,13 @@ pub(crate) struct Commands {
 
 impl Commands {
     // `last` is what was last sent.
-    pub(crate) fn of(s: Controller, last: Request, command: u8, c: u8) -> Commands
-        ensures new { result.new ≡ given command c }
-        ensures replaced { result.replaced ≡ replaces_held (kept command (held_by s.hold s.held last)) (given command c) }
-        ensures stands { result.stands.request ≡ in_force result.replaced (kept command (held_by s.hold s.held last)) (given command c) }
+    pub(crate) fn of(s: Controller, last: Request, command: Command) -> Commands
+        ensures new { result.new ≡ given (command_number command) (command_channel command) }
+        ensures replaced { result.replaced ≡ replaces_held (kept (command_number command) (held_by s.hold s.held last)) result.new }
+        ensures stands { result.stands.request ≡ in_force result.replaced (kept (command_number command) (held_by s.hold s.held last)) result.new }
     {
         let prior = RankedRequest::of(kept(command, held_by(s.hold, s.held, last)));
-        let new = RankedRequest::of(given(command, c));
+        let new = RankedRequest::of(given(command));
         let replaced = replaces(prior.rank, new.rank);
         let stands = if replaced { new } else { prior };
         Commands {

@@ -93,7 +93,7 @@ impl Controller {
             number: table[usize::from(k1)],
         };
         match refusal_of(numbered, conditions, command, channel) {
-            Ok(()) => Ok(moved(self, received, conditions, command, channel)),
+            Ok(command) => Ok(moved(self, received, conditions, command)),
             Err(refusal) => Err(RefusedStep {
                 refusal,
                 controller: self,

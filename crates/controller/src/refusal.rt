@@ -1,14 +1,15 @@
 // Refusals 1 to 7 (01, 'Numbered refusals'; 02, g).
 ghost use Rattle.basics.specs.Refusal.{refusal_told};
 ghost use Rattle.basics.specs.Settings.{sections_fit};
+ghost use Rattle.controller.specs.Command.{command_number, command_channel};
 ghost use Rattle.controller.specs.Refusals.{other_priority, against_mask, wait_fits, held_fits, acceptable};
-ghost use Rattle.controller.specs.Refusals.{conditions_fit, channel_fits, refusal};
-ghost use Rattle.std.specs.Prelude.{true, ◌≡◌};
+ghost use Rattle.controller.specs.Refusals.{conditions_fit, refusal};
+ghost use Rattle.std.specs.Prelude.{true, IfOk, ◌≡◌};
 
 use crate::Controller;
 use crate::asked::asked;
 use crate::codes::{DEGRADE_HIGH, DEGRADE_LOW, FAIL_HIGH, FAIL_LOW};
-use crate::command::is_command;
+use crate::command::{Command, is_command};
 use crate::numbered::Numbered;
 use crate::section::high;
 use crate::wait::is_wait;
@@ -75,32 +76,20 @@ fn conditions_fit(conditions: &[u8]) -> bool
     conditions.iter().all(|c| *c <= 2)
 }
 
-fn channel_fits(n: u8, command: u8, c: u8) -> bool
-    ensures { result ≡ channel_fits n command c }
-{
-    if command <= 2 {
-        c == 0
-    } else {
-        (1 <= c) & (c <= n)
-    }
-}
-
+// Where the step is not refused, the command that its number and channel stand for.
 #[tactic(auto, unfolding(crate::specs::Refusals::refusal))]
 pub(crate) fn refusal_of(
     numbered: Numbered,
     conditions: &[u8],
     command: u8,
     c: u8,
-) -> Result<(), Refusal>
-    ensures { refusal_told result ≡ refusal numbered.controller conditions.now command c }
+) -> Result<Command, Refusal>
+    ensures refused { refusal_told result ≡ refusal numbered.controller conditions.now command c }
+    ensures read { IfOk result (λ read. (command_number read ≡ command) × (command_channel read ≡ c)) }
 {
     let n = numbered.controller.n;
-    settings_refusal(
-        n,
-        numbered.controller.mask,
-        Refusal::Sections,
-        Refusal::Mask,
-    )?;
+    let mask = numbered.controller.mask;
+    settings_refusal(n, mask, Refusal::Sections, Refusal::Mask)?;
     if !acceptable(numbered) {
         return Err(Refusal::Record);
     }
@@ -110,11 +99,5 @@ pub(crate) fn refusal_of(
     if !conditions_fit(conditions) {
         return Err(Refusal::Condition);
     }
-    if 4 < command {
-        return Err(Refusal::Command);
-    }
-    if !channel_fits(n, command, c) {
-        return Err(Refusal::CommandChannel);
-    }
-    Ok(())
+    Command::read(n, command, c)
 }

@@ -7,6 +7,7 @@ use Rattle.request.specs.Command.{fate}
 use Rattle.request.specs.declared.Request.{Request}
 use Rattle.controller.specs.declared.Accepted.{Accepted}
 use Rattle.controller.specs.declared.Controller.{Controller}
+use Rattle.controller.specs.Command.{command_number, command_channel}
 use Rattle.controller.specs.Refusals.{refusal}
 use Rattle.controller.specs.Rules.{FitsK1, asked, accepting, held_by, kept, given, replaces_held, in_force, waiting}
 use Rattle.controller.specs.Rules.{local_request, decided, held_after, counts}
@@ -79,28 +80,28 @@ module _ (s : Controller) (k1 k2 : ℕ) (handed : List ℕ) (command c : ℕ) (u
 pub bounds-conditions-0 : goal.bounds-conditions-0
 bounds-conditions-0 c =
     let a = c.args in
-    let number = (well_formed a.s a.conditions.now a.command a.c c.requires).number in omega arith
+    let number = (well_formed a.s a.conditions.now (command_number a.command) (command_channel a.command) c.requires).number in omega arith
 
 pub accepting-far-requires : goal.accepting-far-requires
-accepting-far-requires c = let a = c.args in (well_formed a.s a.conditions.now a.command a.c c.requires).fits
+accepting-far-requires c = let a = c.args in (well_formed a.s a.conditions.now (command_number a.command) (command_channel a.command) c.requires).fits
 
 pub held_after-held-requires : goal.held_after-held-requires
 held_after-held-requires c =
     let a = c.args in
     let commands = c.of-commands.ensures in
-    rw (commands.stands, commands.replaced, c.asked-last.ensures)
-    (stands_room a.s a.received.k1 a.received.k2 a.conditions.now a.command a.c c.requires)
+    rw (commands.stands, commands.replaced, commands.new, c.asked-last.ensures)
+    (stands_room a.s a.received.k1 a.received.k2 a.conditions.now (command_number a.command) (command_channel a.command) c.requires)
 
 pub local_request-near-requires : goal.local_request-near-requires
 local_request-near-requires c =
     let a = c.args in
     let commands = c.of-commands.ensures in
-    let all = well_formed a.s a.conditions.now a.command a.c c.requires in
+    let all = well_formed a.s a.conditions.now (command_number a.command) (command_channel a.command) c.requires in
     let number = all.number in
     let bounds = fit_bounds a.s.n all.fits in (
       omega arith,
       omega arith,
-      rw (commands.stands, commands.replaced, c.asked-last.ensures) (stands_kind a.s a.conditions.now a.command a.c all),
+      rw (commands.stands, commands.replaced, commands.new, c.asked-last.ensures) (stands_kind a.s a.conditions.now (command_number a.command) (command_channel a.command) all),
       rw c.waiting-wait.ensures (wait_kind c.wait_of-now.result c.asked-last.result),
     )
 
@@ -114,12 +115,14 @@ answering-requires c =
       c.local_request-near.ensures,
       c.waiting-wait.ensures,
       c.wait_of-now.ensures,
+      c.number.ensures,
       commands.stands,
       commands.replaced,
+      commands.new,
       c.accepting-far.ensures,
       c.asked-last.ensures,
       protect,
-    ) (sent_room a.s a.received.k1 a.received.k2 a.conditions.now a.command a.c c.requires)
+    ) (sent_room a.s a.received.k1 a.received.k2 a.conditions.now (command_number a.command) (command_channel a.command) c.requires)
 
 pub returns : goal.returns
 returns c =
@@ -129,16 +132,18 @@ returns c =
     rw (
       c.answering.ensures,
       c.fate-fate.ensures,
+      c.number-2.ensures,
       c.counts-counted.ensures,
       c.decided-sent.ensures,
       c.local_request-near.ensures,
       c.waiting-wait.ensures,
       c.wait_of-now.ensures,
+      c.number.ensures,
       c.held_after-held.ensures,
-      commands.new,
       commands.stands,
       commands.replaced,
+      commands.new,
       c.accepting-far.ensures,
       c.asked-last.ensures,
       protect,
-    ) (moved_is a.s a.received.k1 a.received.k2 a.conditions.now a.command a.c c.requires)
+    ) (moved_is a.s a.received.k1 a.received.k2 a.conditions.now (command_number a.command) (command_channel a.command) c.requires)
