@@ -30,7 +30,7 @@ use Rattle.controller.specs.Refusals.{wait_fits, held_fits, acceptable, conditio
 use Rattle.controller.specs.Step.{protection, wait_of, refused_step, answering, moved, acts_on, step}
 use Rattle.controller.specs.Run.{Input, input_fits, step_by, not_refused, run}
 use Rattle.controller.specs.declared.Controller.{Controller}
-use Rattle.controller.specs.declared.Accepted.{Accepted}
+use Rattle.controller.specs.Rules.{AcceptedPair}
 use Rattle.controller.specs.Step.{Stepped}
 use Rattle.controller.proofs.Usability.{idle_usable}
 use Rattle.controller.proofs.Inputs.{well_formed, facts_acceptable}
@@ -45,7 +45,7 @@ pub k1_back : (r : Request) → r.channel ≤ 14 → (code_of (k1_of r) ≡ r.co
 k1_back r h = (omega arith, omega arith)
 
 -- what is answered once it is known what is accepted and what is sent
-module _ (s : Controller) (far : Accepted) (sent : Request) (now : ℕ) (stands : Request) (fate : ℕ)
+module _ (s : Controller) (far : AcceptedPair) (sent : Request) (now : ℕ) (stands : Request) (fate : ℕ)
     (fits : sections_fit s.n ≡ true) (accepts : Usable s.n far) (channel : far.request.channel ≤ s.n)
     (able : Sendable s.n s.mask now sent) (within : now ≤ s.w) (kind : OfKind is_command stands)
     (standing : Sendable s.n s.mask now stands) where

@@ -22,7 +22,7 @@ use Rattle.controller.specs.Rules.{kept, given, replaces_held, in_force, conditi
 use Rattle.controller.specs.Rules.{waiting, candidates, local_request, decided}
 use Rattle.controller.specs.Step.{protection, wait_of}
 use Rattle.controller.specs.declared.Controller.{Controller}
-use Rattle.controller.specs.declared.Accepted.{Accepted}
+use Rattle.controller.specs.Rules.{AcceptedPair}
 use Rattle.controller.specs.Asking.{OfKind}
 use Rattle.controller.proofs.Usability.{idle_usable}
 use Rattle.controller.proofs.Apart.{held_cases, held_by_kind, command_kind}
@@ -31,7 +31,7 @@ use Rattle.controller.proofs.Sendable.{Sendable, none_sendable, lockout_sendable
 use Rattle.controller.proofs.Sendable.{command_sendable, wait_sendable, reverse_sendable, conditions_sendable}
 
 -- the pair that a step has accepted, taken apart
-pub record Usable (n : ℕ) (far : Accepted) : Type 0 where
+pub record Usable (n : ℕ) (far : AcceptedPair) : Type 0 where
   pub pair_usable : usable n far.k1 far.k2 ≡ true
   pub parts : far ≡ accepted far.k1 far.k2 far.mark
 
@@ -78,7 +78,7 @@ module _ (s : Controller) (conditions : List ℕ) (command c : ℕ) (given-well 
       let far = accepting s failed k1 k2 in
       let u = far_usable failed k1 k2 in
       let p = usable_parts s.n far.k1 far.k2 given-well.fits u.pair_usable in
-      let e : far.request.channel ≡ channel_of far.k1 = ap (λ (a : Accepted). a.request.channel) u.parts in
+      let e : far.request.channel ≡ channel_of far.k1 = ap (λ (a : AcceptedPair). a.request.channel) u.parts in
       rw e (carried_within requests s.n (code_of far.k1) (channel_of far.k1) p.carried)
 
   held_sendable : Able holds

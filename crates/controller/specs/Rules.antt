@@ -3,7 +3,7 @@
 use Rattle.std.specs.Prelude.{if◌then◌else◌, Bool, ◌&&◌, ◌||◌, List, [], ◌∷◌, ◌++◌, ℕ, suc, ◌+◌, ◌*◌, ◌≤◌, ltb, leb, eqb}
 use Rattle.pair.specs.Request.{lockout_code, forced_code, fail_high_code, fail_low_code, degrade_high_code, degrade_low_code}
 use Rattle.pair.specs.Request.{manual_code, wait_code, reverse_code, nothing_code, rank_of}
-use Rattle.pair.specs.Marks.{code_of, channel_of, bridged_of, usable, mark}
+use Rattle.pair.specs.Marks.{code_of, channel_of, bridged_of, mark_told, usable, mark}
 use Rattle.request.specs.Order.{same, by_rank, by_turn, best}
 use Rattle.request.specs.Command.{replaces}
 use Rattle.request.specs.declared.Request.{Request}
@@ -49,12 +49,24 @@ abbrev pub rank_of_request : Request → ℕ
 rank_of_request r = rank_of r.code r.channel
 
 -- 1. Accepted pair: its bytes, its request and the channel that it bridges; beside them the mark of what was received.
-abbrev pub accepted : ℕ → ℕ → ℕ → Accepted
+pub record AcceptedPair : Type 0 where
+  pub k1 : ℕ
+  pub k2 : ℕ
+  pub request : Request
+  pub bridged : ℕ
+  pub mark : ℕ
+
+-- the numbers of the step's own
+abbrev pub accepted_told : Accepted → AcceptedPair
+accepted_told a =
+    record { k1 = a.k1; k2 = a.k2; request = a.request; bridged = a.bridged; mark = mark_told a.mark }
+
+abbrev pub accepted : ℕ → ℕ → ℕ → AcceptedPair
 accepted k1 k2 m = record { k1 = k1; k2 = k2; request = asked k1; bridged = bridged_of k2; mark = m }
 
 -- under a failed section 0 the idle pair stands in for whatever comes; else what comes counts if it is usable, and of an
 -- unusable pair the mark is all that is learnt
-unfoldable pub accepting : Controller → Bool → ℕ → ℕ → Accepted
+unfoldable pub accepting : Controller → Bool → ℕ → ℕ → AcceptedPair
 accepting s failed k1 k2 =
     if failed then accepted idle_k1 idle_k2 0
     else if usable s.n k1 k2 then accepted k1 k2 0

@@ -2,17 +2,16 @@
 -- the held command is read from, what is held afterwards, and the fate of a command that was held but not sent.
 use Rattle.std.specs.Prelude.{if◌then◌else◌, Bool, Result, Ok, Err, List, ◌∷◌, ℕ, eqb, get_or, drop}
 use Rattle.basics.specs.Refusal.{refusal_number, refusal_with}
-use Rattle.pair.specs.Marks.{alarm}
+use Rattle.pair.specs.Marks.{mark_told, mark_case, alarm}
 use Rattle.request.specs.Command.{fate, fate_number, fate_with}
 use Rattle.request.specs.Wait.{wait_now}
 use Rattle.request.specs.Bridge.{bridge, selector}
 use Rattle.request.specs.declared.Request.{Request}
-use Rattle.controller.specs.Rules.{asked, k1_of, accepting, held_by, is_clear, kept, given, replaces_held, in_force}
+use Rattle.controller.specs.Rules.{AcceptedPair, asked, k1_of, accepting, held_by, is_clear, kept, given, replaces_held, in_force}
 use Rattle.controller.specs.Rules.{is_wait, enters_wait, waiting, local_request, decided}
 use Rattle.controller.specs.Rules.{held_after, counts, left_after, keeps_bridge, k2_of}
 use Rattle.controller.specs.Refusals.{refusal}
 use Rattle.controller.specs.declared.Controller.{Controller}
-use Rattle.controller.specs.declared.Accepted.{Accepted}
 use Rattle.controller.specs.declared.Outcome.{Outcome}
 use Rattle.controller.specs.declared.RefusedStep.{RefusedStep}
 
@@ -42,7 +41,7 @@ abbrev pub wait_of : Controller → Request → ℕ → ℕ
 wait_of s last command = wait_now (is_clear command) (enters_wait last) (is_wait last.code) s.w s.left
 
 -- what is answered once it is decided what is sent
-abbrev pub answering : Controller → Accepted → Request → ℕ → ℕ → ℕ → Stepped
+abbrev pub answering : Controller → AcceptedPair → Request → ℕ → ℕ → ℕ → Stepped
 answering s far sent now held fate_of_command =
     record {
       refusal = 0;
@@ -102,7 +101,7 @@ outcome_told o =
       k2 = o.k2;
       bridge = o.bridge;
       selector = o.selector;
-      mark = o.mark;
+      mark = mark_told o.mark;
       fate = fate_number o.fate;
     }
 
@@ -118,7 +117,7 @@ outcome_with a =
       k2 = a.k2;
       bridge = a.bridge;
       selector = a.selector;
-      mark = a.mark;
+      mark = mark_case a.mark;
       fate = fate_with a.fate;
     }
 

@@ -1,27 +1,29 @@
 // The accepted pair (01, 'One step', rule 1).
 ghost use Rattle.basics.specs.Settings.{sections_fit};
-ghost use Rattle.controller.specs.Rules.{accepted, accepting};
+ghost use Rattle.controller.specs.Rules.{accepted_told, accepted, accepting};
 ghost use Rattle.pair.specs.Coder.{decoded_told};
+ghost use Rattle.pair.specs.Marks.{mark_told};
 ghost use Rattle.std.specs.Prelude.{true, ◌≡◌};
 
 use crate::asked::asked;
 use crate::numbered::Received;
 use crate::{Accepted, Controller};
+use pair::mark::Mark;
 use pair::{Decoded, found};
 use request::Request;
 
-// The mark of a pair that was decoded, 0 where it has none.
-pub(crate) fn mark_in(d: Decoded) -> u8
-    ensures { result ≡ (decoded_told d).mark }
+// The mark of a pair that was decoded.
+fn mark_in(d: Decoded) -> Option<Mark>
+    ensures { mark_told result ≡ (decoded_told d).mark }
 {
     match d {
-        Decoded::Marked(m) => m.number(),
-        _ => 0,
+        Decoded::Marked(m) => Some(m),
+        _ => None,
     }
 }
 
-fn accepted(k1: u8, k2: u8, mark: u8) -> Accepted
-    ensures { result ≡ accepted k1 k2 mark }
+fn accepted(k1: u8, k2: u8, mark: Option<Mark>) -> Accepted
+    ensures { accepted_told result ≡ accepted k1 k2 (mark_told mark) }
 {
     Accepted {
         k1,
@@ -34,10 +36,10 @@ fn accepted(k1: u8, k2: u8, mark: u8) -> Accepted
 
 pub(crate) fn accepting(s: Controller, failed: bool, received: Received) -> Accepted
     requires { sections_fit s.n ≡ true }
-    ensures { result ≡ accepting s failed received.k1 received.k2 }
+    ensures { accepted_told result ≡ accepting s failed received.k1 received.k2 }
 {
     if failed {
-        return accepted(Controller::IDLE_K1, Controller::IDLE_K2, 0);
+        return accepted(Controller::IDLE_K1, Controller::IDLE_K2, None);
     }
     let d = found(received.number, s.n, received.k1, received.k2);
     let Decoded::Usable(p) = d else {
@@ -51,6 +53,6 @@ pub(crate) fn accepting(s: Controller, failed: bool, received: Received) -> Acce
             channel: p.channel,
         },
         bridged: p.bridged,
-        mark: 0,
+        mark: None,
     }
 }

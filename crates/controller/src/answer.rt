@@ -2,7 +2,7 @@
 ghost use Rattle.std.specs.Prelude.{◌≤◌, ◌≡◌};
 ghost use Rattle.controller.specs.Command.{command_number, command_channel};
 ghost use Rattle.controller.specs.Refusals.{refusal};
-ghost use Rattle.controller.specs.Rules.{FitsK1, keeps_bridge};
+ghost use Rattle.controller.specs.Rules.{FitsK1, accepted_told, keeps_bridge};
 ghost use Rattle.controller.specs.Step.{outcome_told, answering, moved, acts_on};
 ghost use Rattle.pair.specs.Marks.{alarm};
 ghost use Rattle.request.specs.Command.{fate_number};
@@ -36,7 +36,7 @@ fn answering(
     fate: Fate,
 ) -> Outcome
     requires { FitsK1 sent × (far.request.channel ≤ 15) }
-    ensures { outcome_told result ≡ answering s far sent wait held (fate_number fate) }
+    ensures { outcome_told result ≡ answering s (accepted_told far) sent wait held (fate_number fate) }
 {
     let k1 = k1_of(sent);
     let bridge = bridge(far.request.channel, sent.channel, keeps_bridge(sent));

@@ -14,8 +14,8 @@ use basics::refusal::Refusal;
 use request::{Request, replaces};
 
 // A command of a step, FS and MS with their section.
-#[derive(Clone, Copy, Debug, PartialEq, Eq)]
-pub enum Command {
+#[derive(Clone, Copy)]
+pub(crate) enum Command {
     None,
     Clear,
     Lockout,
@@ -49,7 +49,7 @@ impl Command {
     }
 
     // The paper's number of it.
-    pub fn number(self) -> u8
+    pub(crate) fn number(self) -> u8
         ensures { result ≡ command_number self }
     {
         match self {
@@ -87,10 +87,9 @@ fn held_by(hold: bool, k1: u8, last: Request) -> Request
 fn kept(command: Command, prior: Request) -> Request
     ensures { result ≡ kept (command_number command) prior }
 {
-    if command == Command::Clear {
-        NO_REQUEST
-    } else {
-        prior
+    match command {
+        Command::Clear => NO_REQUEST,
+        _ => prior,
     }
 }
 

@@ -23,6 +23,7 @@ use crate::numbered::{Numbered, Received};
 use crate::refusal::refusal_of;
 use basics::refusal::Refusal;
 use basics::settings::{Settings, settings_refusal};
+use pair::mark::Mark;
 use pair::table::numbers;
 use request::Request;
 use request::command::Fate;
@@ -109,7 +110,7 @@ pub(crate) struct Accepted {
     pub k2: u8,
     pub request: Request,
     pub bridged: u8,
-    pub mark: u8,
+    pub mark: Option<Mark>,
 }
 
 // What a step answers that is not refused.
@@ -120,7 +121,7 @@ pub struct Outcome {
     pub k2: u8,
     pub bridge: u8,
     pub selector: u8,
-    pub mark: u8,
+    pub mark: Option<Mark>,
     pub fate: Fate,
 }
 

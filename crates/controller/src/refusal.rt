@@ -45,15 +45,13 @@ fn wait_fits(code: u8, w: u16, left: u16) -> bool
 }
 
 #[tactic(auto, using(pair::proofs::Looking::usable_looked))]
-fn held_fits(s: Numbered) -> bool
-    requires { sections_fit s.controller.n ≡ true }
-    ensures { result ≡ held_fits s.controller.n s.controller.hold s.controller.held }
+fn held_fits(numbered: Numbered) -> bool
+    requires { sections_fit numbered.controller.n ≡ true }
+    ensures { result ≡ held_fits numbered.controller.n numbered.controller.hold numbered.controller.held }
 {
-    let held = s.controller.held;
-    if held == Controller::NONE_HELD {
-        return true;
-    }
-    s.controller.hold & is_command(asked(held).code) & usable_in(s.held, s.controller.n)
+    let s = numbered.controller;
+    s.held == Controller::NONE_HELD
+        || s.hold & is_command(asked(s.held).code) & usable_in(numbered.held, s.n)
 }
 
 #[tactic(auto, using(pair::proofs::Looking::usable_looked, pair::proofs::Coding::usable_test), unfolding(crate::specs::Refusals::acceptable))]

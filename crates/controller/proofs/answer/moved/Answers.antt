@@ -1,11 +1,11 @@
 -- Each rule's function is handed what the rules before it gave.
-use Rattle.std.proofs.Common.{arith, ◌≡◌, Bool, [], ◌∷◌, List, ℕ, ◌≤◌, drop, eqb}
+use Rattle.std.proofs.Common.{arith, ◌≡◌, ap, ◌∙◌, Bool, [], ◌∷◌, List, ℕ, ◌≤◌, drop, eqb}
 use Rattle.basics.proofs.Fitting.{fit_bounds}
 use Rattle.pair.specs.Marks.{alarm, alarm_in}
 use Rattle.pair.proofs.Coding.{alarm_test}
-use Rattle.request.specs.Command.{fate}
+use Rattle.request.specs.Command.{fate, fate_number}
 use Rattle.request.specs.declared.Request.{Request}
-use Rattle.controller.specs.declared.Accepted.{Accepted}
+use Rattle.controller.specs.Rules.{AcceptedPair}
 use Rattle.controller.specs.declared.Controller.{Controller}
 use Rattle.controller.specs.Command.{command_number, command_channel}
 use Rattle.controller.specs.Refusals.{refusal}
@@ -36,7 +36,7 @@ module _ (s : Controller) (k1 k2 : ℕ) (handed : List ℕ) (command c : ℕ) (u
   acts_well = well_formed s acts command c (acts_unrefused s command c (alarm s.n k1 k2) handed unrefused)
 
   -- what each rule gives
-  abbrev far : Accepted
+  abbrev far : AcceptedPair
   far = accepting s (eqb (protection acts) 2) k1 k2
 
   abbrev prior : Request
@@ -110,6 +110,7 @@ answering-requires c =
     let a = c.args in
     let commands = c.of-commands.ensures in
     let protect = protects a.s.n a.received.k1 a.received.k2 a.conditions.now c.alarm.ensures c.protection-protect.ensures in
+    let heard = ap (λ (a : AcceptedPair). a.request) c.accepting-far.ensures in
     rw (
       c.decided-sent.ensures,
       c.local_request-near.ensures,
@@ -119,7 +120,7 @@ answering-requires c =
       commands.stands,
       commands.replaced,
       commands.new,
-      c.accepting-far.ensures,
+      heard,
       c.asked-last.ensures,
       protect,
     ) (sent_room a.s a.received.k1 a.received.k2 a.conditions.now (command_number a.command) (command_channel a.command) c.requires)
@@ -129,8 +130,12 @@ returns c =
     let a = c.args in
     let commands = c.of-commands.ensures in
     let protect = protects a.s.n a.received.k1 a.received.k2 a.conditions.now c.alarm.ensures c.protection-protect.ensures in
-    rw (
-      c.answering.ensures,
+    let heard = ap (λ (a : AcceptedPair). a.request) c.accepting-far.ensures in
+    c.answering.ensures
+    ∙ ap
+    (λ (far : AcceptedPair). answering a.s far c.decided-sent.result c.wait_of-now.result c.held_after-held.result
+    (fate_number c.fate-fate.result)) c.accepting-far.ensures
+    ∙ rw (
       c.fate-fate.ensures,
       c.number-2.ensures,
       c.counts-counted.ensures,
@@ -143,7 +148,7 @@ returns c =
       commands.stands,
       commands.replaced,
       commands.new,
-      c.accepting-far.ensures,
+      heard,
       c.asked-last.ensures,
       protect,
     ) (moved_is a.s a.received.k1 a.received.k2 a.conditions.now (command_number a.command) (command_channel a.command) c.requires)
