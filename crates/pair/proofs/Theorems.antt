@@ -61,14 +61,32 @@ use Rattle.pair.proofs.mark.alarm.Kinds as alarm-kinds
 use Rattle.pair.proofs.mark.alarm.Reads as alarm-fn
 use Rattle.pair.proofs.mark.alarm.Statement as alarm-statement
 use Rattle.pair.proofs.mark.alarm.Met as alarm-met
+use Rattle.pair.proofs.found.Kinds as found-kinds
+use Rattle.pair.proofs.found.Reads as found-fn
+use Rattle.pair.proofs.found.Statement as found-statement
+use Rattle.pair.proofs.found.Met as found-met
+use Rattle.pair.proofs.mark.Mark.number.Kinds as mark-number-kinds
+use Rattle.pair.proofs.mark.Mark.number.Reads as mark-number-fn
+use Rattle.pair.proofs.mark.Mark.number.Statement as mark-number-statement
+use Rattle.pair.proofs.mark.Mark.number.Met as mark-number-met
+use Rattle.pair.proofs.mark.Mark.number_or_0.Kinds as mark-number-or-0-kinds
+use Rattle.pair.proofs.mark.Mark.number_or_0.Reads as mark-number-or-0-fn
+use Rattle.pair.proofs.mark.Mark.number_or_0.Statement as mark-number-or-0-statement
+use Rattle.pair.proofs.mark.Mark.number_or_0.Met as mark-number-or-0-met
 
 -- Each public function answers what its definition says, for every input. (`statement` is the contract, as the checker
--- reads it off the source; it asks nothing of the caller. The last six are open to the crates above alone.)
+-- reads it off the source; it asks nothing of the caller. The last seven are open to the crates above alone.)
 decode_right : {M : Type 1} → decode-statement.statement M
 decode_right = decode-met.met
 
 encode_right : {M : Type 1} → encode-statement.statement M
 encode_right = encode-met.met
+
+mark_number_right : {M : Type 1} → mark-number-statement.statement M
+mark_number_right = mark-number-met.met
+
+mark_number_or_0_right : {M : Type 1} → mark-number-or-0-statement.statement M
+mark_number_or_0_right = mark-number-or-0-met.met
 
 rank_right : {M : Type 1} → rank-statement.statement M
 rank_right = rank-met.met
@@ -93,6 +111,9 @@ second_usable_right = second-usable-met.met
 
 alarm_right : {M : Type 1} → alarm-statement.statement M
 alarm_right = alarm-met.met
+
+found_in_right : {M : Type 1} → found-statement.statement M
+found_in_right = found-met.met
 
 -- Decoding a usable pair and encoding the record gives the pair back.
 pair_right : (n k1 k2 : ℕ) (p : Pair) → decoding_case (decoding n k1 k2) ≡ Ok (decoded.Usable p)
@@ -208,6 +229,12 @@ rank_unique κs args x y s t p q = one_value p q
 value_of_unique : OneAnswer 0 value-of-kinds.ps value-of-kinds.r value_of_lem.Post
 value_of_unique κs args x y s t p q = value_one (one_value p q)
 
+mark_number_unique : OneAnswer 0 mark-number-kinds.ps mark-number-kinds.r mark-number-fn.Post
+mark_number_unique κs args x y s t p q = one_value p q
+
+mark_number_or_0_unique : OneAnswer 0 mark-number-or-0-kinds.ps mark-number-or-0-kinds.r mark-number-or-0-fn.Post
+mark_number_or_0_unique κs args x y s t p q = one_value p q
+
 -- So it is for what is open to the crates above alone: `numbers`, `rank_in`, `usable_in`, `decode_looked`, `second_usable`,
 -- `alarm`.
 shared_unique : OneAnswer 0 numbers-kinds.ps numbers-kinds.r numbers.Post
@@ -224,3 +251,7 @@ shared_unique = (
   λ κs args x y s t p q. one_value p q,
   λ κs args x y s t p q. one_value p q,
 )
+
+-- `found` too.
+found_in_unique : OneAnswer 0 found-kinds.ps found-kinds.r found-fn.Post
+found_in_unique κs args x y s t p q = one_case p q

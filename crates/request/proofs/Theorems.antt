@@ -40,6 +40,10 @@ use Rattle.request.proofs.selector.Kinds as selector-kinds
 use Rattle.request.proofs.selector.Reads as selector
 use Rattle.request.proofs.selector.Statement as selector-statement
 use Rattle.request.proofs.selector.Met as selector-met
+use Rattle.request.proofs.command.Fate.number.Kinds as fate-number-kinds
+use Rattle.request.proofs.command.Fate.number.Reads as fate-number-fn
+use Rattle.request.proofs.command.Fate.number.Statement as fate-number-statement
+use Rattle.request.proofs.command.Fate.number.Met as fate-number-met
 
 -- Each public function answers what its definition says, for every input. (`statement` is the contract, as the checker
 -- reads it off the source; it asks nothing of the caller.)
@@ -54,6 +58,9 @@ replaces_right = replaces-met.met
 
 fate_right : {M : Type 1} → fate-statement.statement M
 fate_right = fate-met.met
+
+fate_number_right : {M : Type 1} → fate-number-statement.statement M
+fate_number_right = fate-number-met.met
 
 wait_now_right : {M : Type 1} → wait-now-statement.statement M
 wait_now_right = wait-now-met.met
@@ -135,6 +142,9 @@ replaces_unique κs args x y s t p q = one_value p q
 
 fate_unique : OneAnswer 0 fate-kinds.ps fate-kinds.r fate.Post
 fate_unique κs args x y s t p q = one_fate p q
+
+fate_number_unique : OneAnswer 0 fate-number-kinds.ps fate-number-kinds.r fate-number-fn.Post
+fate_number_unique κs args x y s t p q = one_value p q
 
 wait_now_unique : OneAnswer 0 wait-now-kinds.ps wait-now-kinds.r wait-now.Post
 wait_now_unique κs args x y s t p q = one_value p q
