@@ -8,7 +8,7 @@ use Rattle.basics.specs.Bytes.{two_bytes, four_bytes}
 use Rattle.basics.specs.First.{◌when◌, first_of}
 use Rattle.basics.specs.Settings.{sections_fit, options_fit, hold_of}
 use Rattle.basics.proofs.One.{OneAnswer, OneContent, one_value}
-use Rattle.pair.specs.declared.Value.{Value}
+use Rattle.pair.specs.Table.{Value}
 use Rattle.pair.specs.Coder.{Decoding, Encoding, encoding}
 use Rattle.controller.specs.Settings.{fresh, settings_faults, making}
 use Rattle.controller.specs.declared.Controller.{Controller}

@@ -1,7 +1,7 @@
 -- The coder: what is answered of a K1 and of a pair, and what is taken to be encoded, in bytes.
 use Rattle.std.specs.Prelude.{if◌then◌else◌, Bool, ◌&&◌, List, [], ◌∷◌, ℕ, ltb, eqb}
 use Rattle.basics.specs.Settings.{sections_fit}
-use Rattle.pair.specs.declared.Value.{Value}
+use Rattle.pair.specs.Table.{Value}
 use Rattle.pair.specs.Coder.{Decoding, Encoding, encoding}
 
 -- rank, least n, greatest n, mark

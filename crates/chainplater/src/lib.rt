@@ -7,12 +7,12 @@ ghost use Rattle.basics.specs.Bytes.{two_bytes, four_bytes};
 ghost use Rattle.book.specs.Format.{contents_in, bytes_of};
 ghost use Rattle.book.specs.Reader.{reading};
 ghost use Rattle.book.specs.Writer.{writing, output};
-ghost use Rattle.chainplater.specs.Coder.{value_bytes, flag, decoded_bytes, encoded_bytes, encoding_bytes};
+ghost use Rattle.chainplater.specs.Coder.{value_bytes, decoded_bytes, encoded_bytes, encoding_bytes};
 ghost use Rattle.chainplater.specs.Record.{record_bytes, fresh_for, step_bytes};
 ghost use Rattle.chainplater.specs.Switches.{looked_bytes};
 ghost use Rattle.chainplater.specs.Verdict.{judging_bytes, Judged, CausesTold};
 ghost use Rattle.explain.specs.Verdict.{told};
-ghost use Rattle.pair.specs.Coder.{decoding};
+ghost use Rattle.pair.specs.Coder.{decoded_told, decoding};
 ghost use Rattle.pair.specs.Request.{requests};
 ghost use Rattle.pair.specs.Table.{value_of};
 ghost use Rattle.report.specs.Table.{Printed};
@@ -21,12 +21,14 @@ ghost use Rattle.switches.specs.LastChange.{looking};
 ghost use Rattle.std.specs.Prelude.{length, get_or, ◌≡◌};
 
 use crate::record::{options_refusal, outcome_bytes, record_bytes, record_in, refused_bytes};
+use basics::refusal::Refusal;
 use basics::settings::sections_fit;
 use book::Writing;
 use controller::{Controller, Made};
 use explain::Verdict;
+use pair::mark::Mark;
 use pair::table::value_of;
-use pair::{Decoded, Encoded, Pair};
+use pair::{Decoded, Pair};
 
 #[unsafe(no_mangle)]
 pub extern "C" fn chainplater_fresh(
@@ -60,13 +62,17 @@ pub extern "C" fn chainplater_k1(k1: u8, out: &mut [u8; 4])
     ensures { out.new ≡ value_bytes (value_of requests k1) }
 {
     let v = value_of(k1);
-    *out = [v.rank, v.least, v.greatest, v.mark];
+    *out = [v.rank, v.least, v.greatest, Mark::number_or_0(v.mark)];
 }
 
-fn flag(set: bool) -> u8
-    ensures { result ≡ flag set }
+fn decoded_bytes(d: Decoded) -> [u8; 6]
+    ensures { result ≡ decoded_bytes (decoded_told d) }
 {
-    if set { 1 } else { 0 }
+    match d {
+        Decoded::Usable(p) => [0, p.code, p.channel, p.bridged, u8::from(p.remote), 0],
+        Decoded::Marked(m) => [m.number(), 0, 0, 0, 0, 0],
+        Decoded::Alarm => [0, 0, 0, 0, 0, 1],
+    }
 }
 
 #[unsafe(no_mangle)]
@@ -75,25 +81,18 @@ pub extern "C" fn chainplater_decode(n: u8, k1: u8, k2: u8, out: &mut [u8; 6]) -
     ensures out_after { out.new ≡ decoded_bytes (decoding n k1 k2) }
 {
     match pair::decode(n, k1, k2) {
-        Decoded::Usable(p) => {
-            *out = [0, p.code, p.channel, p.bridged, flag(p.remote), 0];
+        Ok(d) => {
+            *out = decoded_bytes(d);
             0
         }
-        Decoded::Marked(m) => {
-            *out = [m, 0, 0, 0, 0, 0];
-            0
-        }
-        Decoded::Alarm => {
-            *out = [0, 0, 0, 0, 0, 1];
-            0
-        }
-        Decoded::Refused(k) => {
-            *out = [0, 0, 0, 0, 0, 0];
-            k
+        Err(refusal) => {
+            *out = [0; 6];
+            refusal.number()
         }
     }
 }
 
+#[tactic(auto, using(pair::proofs::Coding::encoded_bytes_are), unfolding(crate::specs::Coder::encoding_bytes))]
 #[unsafe(no_mangle)]
 pub extern "C" fn chainplater_encode(
     n: u8,
@@ -109,7 +108,7 @@ pub extern "C" fn chainplater_encode(
     // no usable pair decodes to a flag above 1 (01, refusal 10); refusal 1 comes before it
     if sections_fit(n) & (1 < remote) {
         *out = [0, 0];
-        return 10;
+        return Refusal::NotDecoded.number();
     }
     let p = Pair {
         code,
@@ -118,13 +117,13 @@ pub extern "C" fn chainplater_encode(
         remote: remote == 1,
     };
     match pair::encode(n, p) {
-        Encoded::Bytes(k1, k2) => {
-            *out = [k1, k2];
+        Ok(bytes) => {
+            *out = bytes;
             0
         }
-        Encoded::Refused(k) => {
+        Err(refusal) => {
             *out = [0, 0];
-            k
+            refusal.number()
         }
     }
 }

@@ -4,7 +4,6 @@ ghost use Rattle.chainplater.specs.Given.{StepOf};
 ghost use Rattle.chainplater.specs.Record.{record_in, record_bytes, outcome_bytes, options_faults, refused_bytes};
 ghost use Rattle.std.specs.Prelude.{length, ◌≡◌};
 
-use crate::flag;
 use basics::settings::settings_refusal;
 use basics::two_at;
 use controller::{Controller, Outcome};
@@ -33,7 +32,7 @@ pub(crate) fn record_bytes(s: Controller) -> [u8; 12]
 {
     [
         s.n,
-        flag(s.hold),
+        u8::from(s.hold),
         (s.mask / 256) as u8,
         (s.mask % 256) as u8,
         (s.w / 256) as u8,
