@@ -7,7 +7,7 @@ use std::io::Write;
 
 const THREE: Settings = Settings { n: 3, ..TWO };
 
-// Section 14 of fourteen.
+// The conditions of fourteen sections, the last one failed, and the last one degraded.
 const FAILED: &[u8] = &[0, 0, 0, 0, 0, 0, 0, 0, 0, 0, 0, 0, 0, 0, 2];
 
 const DEGRADED: &[u8] = &[0, 0, 0, 0, 0, 0, 0, 0, 0, 0, 0, 0, 0, 0, 1];
