@@ -1,5 +1,6 @@
 // What a step answered, as it is printed, counted and summed up.
 use controller::{Controller, Outcome, RefusedStep};
+use pair::mark::Mark;
 use std::fmt;
 
 #[derive(Clone, Copy)]
@@ -25,8 +26,9 @@ impl Answer {
     pub(crate) fn numbers(self) -> [u8; 7] {
         match self.0 {
             Ok(o) => {
+                let mark = Mark::number_or_0(o.mark);
                 let fate = o.fate.number();
-                [0, o.k1, o.k2, o.bridge, o.selector, o.mark, fate]
+                [0, o.k1, o.k2, o.bridge, o.selector, mark, fate]
             }
             Err(refused) => [refused.refusal.number(), 0, 0, 0, 0, 0, 0],
         }

@@ -138,7 +138,7 @@ impl Counts {
             Fate::Taken => self.taken = self.taken.saturating_add(1),
             Fate::Denied => self.denied = self.denied.saturating_add(1),
         }
-        if o.mark != 0 {
+        if o.mark.is_some() {
             self.marked = self.marked.saturating_add(1);
         }
     }
