@@ -1,5 +1,5 @@
 -- The bytes of a whole book: how many there are, and that the writer's parts put one behind the other are they.
-use mathlib.Core.Path.{◌≡◌, refl, ap, ◌∙◌}
+use mathlib.Core.Path.{◌≡◌, refl, sym, ap, ◌∙◌}
 use mathlib.Core.Bool.{Bool, true, false}
 use mathlib.Core.List.{List, ◌∷◌, ◌++◌}
 use Prim.Native.Nat.{ℕ, ◌+◌, ◌≤◌}
@@ -9,13 +9,16 @@ use lib.Dec.{eqb}
 use lib.ListN.{length, set, drop, length-append, length-set}
 use lib.Seq.{sets, sets-eq, length-sets}
 use borrow.Author.Tests.{eqb-true, ne_eqb}
+use Rattle.std.specs.Prelude.{Ok, Err}
 use Rattle.basics.specs.Answer.{Answers}
+use Rattle.basics.specs.Refusal.{refusal_number}
+use Rattle.basics.specs.declared.refusal.Refusal.{Refusal}
+use Rattle.basics.proofs.Refusals.{number_some, with_number}
 use Rattle.basics.proofs.Bytes.{sets_joined}
 use Rattle.book.specs.Format.{first_body, placed, contents_bytes, book_of, most}
 use Rattle.book.specs.Writer.{counted, size, write_refusal, writing_told, writing_case, writing, output}
 use Rattle.book.specs.declared.Entry.{Entry}
 use Rattle.book.specs.declared.Contents.{Contents}
-use Rattle.book.specs.declared.Writing.TheVariants as answer
 use Rattle.book.proofs.Refusals.{writable}
 use Rattle.book.proofs.Counted.{length_counted}
 use Rattle.book.proofs.Laid.{length_first}
@@ -65,28 +68,37 @@ module _ (contents : Contents) (bodies out after : List ℕ) where
         (zero-add (length (book_of (counted contents) bodies)) ∙ long)
 
 -- what the writer answers, and what the output then holds, where it refuses nothing and where it refuses
-module _ (contents : Contents) (bodies out : List ℕ) where
-  pub written_answer : (n : ℕ) → write_refusal contents (length bodies) (length out) ≡ 0
-      → n ≡ size contents (length bodies)
-      → Answers writing_told writing_case (writing contents (length bodies) (length out)) (answer.Written n)
+module _ (contents : Contents) (bodies room : ℕ) where
+  pub written_answer : (n : ℕ) → 0 ≡ write_refusal contents bodies room → n ≡ size contents bodies
+      → Answers writing_told writing_case (writing contents bodies room) (Ok n)
   unfolding writing
-  written_answer n e sized = rw (e, sized) (record { numbers = refl; decided = refl })
+  written_answer n none sized = rw (← none, sized) (record { numbers = refl; decided = refl })
 
+  pub refused_answer : (e : Refusal) → refusal_number e ≡ write_refusal contents bodies room
+      → Answers writing_told writing_case (writing contents bodies room) (Err e)
+  unfolding writing
+  refused_answer e is =
+      let some = ne_eqb (refusal_number e) 0 (number_some e) in
+      rw (← is, some) (record { numbers = refl; decided = rw (some, with_number e) })
+
+  pub writing_refusal : (writing contents bodies room).refusal ≡ write_refusal contents bodies room
+  unfolding writing
+  writing_refusal = go (eqb (write_refusal contents bodies room) 0) refl
+    where
+      go : (t : Bool) → eqb (write_refusal contents bodies room) 0 ≡ t
+          → (writing contents bodies room).refusal ≡ write_refusal contents bodies room
+      go true h = rw h (sym (eqb-true (write_refusal contents bodies room) 0 h))
+      go false h = rw h
+
+module _ (contents : Contents) (bodies out : List ℕ) where
   pub written_output : write_refusal contents (length bodies) (length out) ≡ 0
       → book_of (counted contents) bodies ++ drop (size contents (length bodies)) out ≡ output contents bodies out
   unfolding output
   written_output e = rw e
 
-  module _ (number : ℕ) (e : number ≡ write_refusal contents (length bodies) (length out)) (some : number ≡ 0 → ⊥) where
-    pub refused_answer :
-        Answers writing_told writing_case (writing contents (length bodies) (length out)) (answer.Refused number)
-    unfolding writing
-    refused_answer =
-        rw (← e, ne_eqb number 0 some) (record { numbers = refl; decided = rw (ne_eqb number 0 some) })
-
-    pub refused_output : out ≡ output contents bodies out
-    unfolding output
-    refused_output = rw (← e, ne_eqb number 0 some)
+  pub refused_output : (write_refusal contents (length bodies) (length out) ≡ 0 → ⊥) → out ≡ output contents bodies out
+  unfolding output
+  refused_output some = rw (ne_eqb (write_refusal contents (length bodies) (length out)) 0 some)
 
   pub refused_writing : (write_refusal contents (length bodies) (length out) ≡ 0 → ⊥)
       → (writing contents (length bodies) (length out)

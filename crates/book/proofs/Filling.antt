@@ -1,169 +1,154 @@
 -- The writer's loop: capture by capture, its entry behind the first two bytes and its body behind the contents.
 use mathlib.Core.Path.{◌≡◌, refl, sym, ap, ◌∙◌}
-use mathlib.Core.List.{List, [], ◌∷◌, ◌++◌}
-use Prim.Native.Nat.{ℕ, ◌+◌, ◌*◌, ◌-◌, ◌≤◌, ◌<◌}
+use mathlib.Core.List.{List, [], ◌∷◌, ◌++◌, append_assoc}
+use Prim.Native.Nat.{ℕ, ◌+◌, ◌*◌, ◌-◌, ◌≤◌}
 use native.Mathlib.Omega.{arith}
-use lib.ListN.{length, get_or, take, drop, length-drop, take-append-drop, drop_of_length-le}
-use lib.Seq.{sets, length-sets, drop-drop, length-take-le}
-use Rattle.basics.proofs.Bytes.{sets_joined, sets_apart, back, lent}
-use Rattle.book.specs.Format.{entry_bytes, first_body, placed_at, placed, contents_bytes, contents_in, most}
+use lib.ListN.{length, take, drop, length-drop, take-append-drop, drop_of_length-le}
+use lib.Seq.{sets, sets-eq, length-sets, drop-drop, length-take-le}
+use Rattle.basics.proofs.Bytes.{sets_joined, sets_apart}
+use Rattle.book.specs.Format.{entry_bytes, first_body, placed_at, placed, contents_bytes, most}
 use Rattle.book.specs.Writer.{counted, steps_of, write_refusal}
 use Rattle.book.specs.declared.Entry.{Entry}
+use Rattle.book.specs.declared.Contents.{Contents}
 use Rattle.book.proofs.Refusals.{writable}
-use Rattle.book.proofs.Counted.{handed, counted_handed, length_handed, steps_next, steps_none}
+use Rattle.book.proofs.Counted.{length_counted, steps_next, steps_none}
 use Rattle.book.proofs.Laid.{length_entry, length_first}
+
+-- bytes that stand in the place of as many, from a place on, are written there
+abbrev pub put : ℕ → ℕ → List ℕ → List ℕ → List ℕ
+put at few part source = take at part ++ (source ++ drop few (drop at part))
+
+put_down : (part source : List ℕ) (at few : ℕ) → few ≡ length source → at + few ≤ length part
+    → put at few part source ≡ sets part at source
+put_down part source at few is room =
+    rw (is, drop-drop (length source) at part, sets-eq source part at (omega arith))
+    (sym (append_assoc (take at part) source (drop (at + length source) part)))
 
 -- what entries and bodies leave of an output, the entries from one place on and the bodies from another
 abbrev filled : List ℕ → ℕ → List Entry → ℕ → List ℕ → List ℕ
 filled out place entries at bodies = sets (sets out place (contents_bytes (placed at entries))) at bodies
 
--- Captures before i are written, `from` bytes of their bodies; the next body belongs at `at`.
-pub record Filling (bodies before out : List ℕ) (count : ℕ) (entries : List Entry) (at from i : ℕ) : Type 0 where
-  pub all : length entries ≡ count
-  pub few : count ≤ 64
-  pub within : i ≤ count
+-- Captures before i are written. Entries are left, and of the bodies what is not put; the next body belongs at `at`.
+pub record Filling (contents : Contents) (bodies before out : List ℕ) (at : ℕ) (unput : List ℕ) (left : List Entry) (i : ℕ)
+    : Type 0 where
+  pub few : i + length left ≡ contents.count
   pub same : length out ≡ length before
-  pub roomy : first_body count + length bodies ≤ length before
-  pub small : first_body count + length bodies ≤ most
-  pub behind : at ≡ first_body count + from
-  pub left : from + 4 * steps_of (drop i entries) ≡ length bodies
+  pub roomy : first_body contents.count + length bodies ≤ length before
+  pub small : first_body contents.count + length bodies ≤ most
+  pub behind : first_body contents.count ≤ at
+  pub ends : at + length unput ≡ first_body contents.count + length bodies
+  pub steps : 4 * steps_of left ≡ length unput
   pub fills :
-      filled out (2 + 12 * i) (drop i entries) at (drop from bodies)
-      ≡ filled before 2 entries (first_body count) bodies
+      filled out (2 + 12 * i) left at unput
+      ≡ filled before 2 (counted contents) (first_body contents.count) bodies
 
-pub fill_start : (bytes bodies out : List ℕ) → write_refusal (contents_in bytes) (length bodies) (length out) ≡ 0
-    → Filling bodies out out (get_or bytes 0 0) (handed bytes) (first_body (get_or bytes 0 0)) 0 0
-unfolding contents_in
-fill_start bytes bodies out e =
-    let w = writable (contents_in bytes) (length bodies) (length out) e in
-    record {
-      all = length_handed bytes;
-      few = w.few;
-      within = omega arith;
+pub fill_start : (contents : Contents) (bodies out : List ℕ) (left : List Entry) (i at : ℕ)
+    → write_refusal contents (length bodies) (length out) ≡ 0 → left ≡ counted contents → i ≡ 0
+    → at ≡ first_body contents.count
+    → Filling contents bodies out out at bodies left i
+fill_start contents bodies out left i at e all none first =
+    let w = writable contents (length bodies) (length out) e in
+    rw (all, none, first)
+    (record {
+      few = omega (arith, length_counted contents.count contents.entries);
       same = refl;
       roomy = w.roomy;
       small = w.small;
       behind = omega arith;
-      left = omega (arith, w.whole, ap steps_of (counted_handed bytes w.few));
+      ends = refl;
+      steps = sym w.whole;
       fills = refl;
-    }
+    })
 
-module _ {bodies before out : List ℕ} {count : ℕ} {entries : List Entry} {at from i : ℕ}
-    (filling : Filling bodies before out count entries at from i) where
-  fill_done : count ≤ i → out ≡ filled before 2 entries (first_body count) bodies
+module _ {contents : Contents} {bodies before out : List ℕ} {at : ℕ} {unput : List ℕ} {left : List Entry} {i : ℕ}
+    (filling : Filling contents bodies before out at unput left i) where
+  pub fill_done : left ≡ []
+      → out ≡ sets (sets before 2 (contents_bytes (placed (first_body contents.count) (counted contents)))) (first_body contents.count) bodies
   unfolding placed contents_bytes
-  fill_done h =
-      let none : drop i entries ≡ [] = drop_of_length-le entries {i = i} (omega (arith, filling.all)) in
-      let all : length bodies ≤ from =
-      omega (arith, steps_none i entries (omega (arith, filling.all)), filling.left) in
+  fill_done none =
+      let nothing : length unput ≤ 0 = omega (arith, filling.steps, steps_none none) in
       ap (λ (es : List Entry). filled out (2 + 12 * i) es at []) (sym none)
-      ∙ ap (filled out (2 + 12 * i) (drop i entries) at) (sym (drop_of_length-le bodies all))
+      ∙ ap (filled out (2 + 12 * i) left at) (sym (drop_of_length-le unput nothing))
       ∙ filling.fills
 
-  module _ (h : i < count) (e : Entry) (next : drop i entries ≡ e ∷ drop (i + 1) entries) (size : ℕ)
-      (sized : size ≡ 4 * e.steps) where
-    next_left : from + size + 4 * steps_of (drop (i + 1) entries) ≡ length bodies
-    next_left = omega (arith, steps_next (drop i entries) (drop (i + 1) entries) e next, filling.left, sized)
-
-    pub fill_inside : from + size ≤ length bodies
-    fill_inside = omega (arith, next_left)
+  module _ {e : Entry} {rest : List Entry} (next : left ≡ e ∷ rest) (size : ℕ) (sized : size ≡ 4 * e.steps) where
+    pub fill_inside : size ≤ length unput
+    fill_inside = omega (arith, steps_next next, filling.steps, sized)
 
     pub fill_room : at + size ≤ length out
-    fill_room = omega (arith, next_left, filling.roomy, filling.behind, filling.same)
+    fill_room = omega (arith, fill_inside, filling.ends, filling.roomy, filling.same)
 
     pub fill_small : at + size ≤ most
-    fill_small = omega (arith, next_left, filling.small, filling.behind)
+    fill_small = omega (arith, fill_inside, filling.ends, filling.small)
+
+    pub fill_place : 2 + 12 * i + 12 ≤ length out
+    fill_place = omega (arith, ap length next, filling.few, filling.roomy, filling.same)
 
     abbrev body : List ℕ
-    body = take (from + size - from) (drop from bodies)
-
-    pub length_body : length body ≡ size
-    length_body =
-        length-take-le (from + size - from) (drop from bodies) (simp length-drop (omega (arith, fill_inside)))
-        ∙ omega arith
-
-    body_left : body ++ drop (from + size) bodies ≡ drop from bodies
-    body_left =
-        let far : from + size ≡ from + (from + size - from) = omega arith in
-        ap (λ (l : List ℕ). body ++ l)
-        (ap (λ (n : ℕ). drop n bodies) far ∙ sym (drop-drop (from + size - from) from bodies))
-        ∙ take-append-drop (from + size - from) (drop from bodies)
+    body = take size unput
 
     abbrev place : ℕ
     place = 2 + 12 * i
 
-    pub fill_place : place + 12 ≤ length out
-    fill_place = omega (arith, filling.roomy, filling.same)
-
     -- the entry at its place
-    module _ (part : List ℕ)
-        (put : part ≡ sets (take (length out - place) (drop place out)) 0 (entry_bytes (placed_at at e))) where
-      abbrev between : List ℕ
-      between = back out place part
-
-      first : between ≡ sets out place (entry_bytes (placed_at at e))
-      first = lent out part (entry_bytes (placed_at at e)) place (omega (arith, fill_place, length_entry (placed_at at e))) put
-
+    module _ (between : List ℕ) (first : between ≡ sets out place (entry_bytes (placed_at at e))) where
       pub fill_between : length between ≡ length out
       fill_between = ap length first ∙ length-sets out place (entry_bytes (placed_at at e))
 
       abbrev later : List ℕ
-      later = contents_bytes (placed (at + size) (drop (i + 1) entries))
+      later = contents_bytes (placed (at + size) rest)
 
-      listed : sets between (2 + 12 * (i + 1)) later ≡ sets out place (contents_bytes (placed at (drop i entries)))
+      listed : sets between (2 + 12 * (i + 1)) later ≡ sets out place (contents_bytes (placed at left))
       unfolding placed contents_bytes
       listed =
           let beside : 2 + 12 * (i + 1) ≡ place + length (entry_bytes (placed_at at e)) =
           omega (arith, length_entry (placed_at at e)) in
           sets_joined (entry_bytes (placed_at at e)) later out between _ place first
           (ap (λ (n : ℕ). sets between n later) beside)
-          ∙ ap (λ (n : ℕ). sets out place
-          (entry_bytes (placed_at at e) ++ contents_bytes (placed (at + n) (drop (i + 1) entries)))) sized
+          ∙ ap (λ (n : ℕ). sets out place (entry_bytes (placed_at at e) ++ contents_bytes (placed (at + n) rest))) sized
           ∙ ap (λ (es : List Entry). sets out place (contents_bytes (placed at es))) (sym next)
 
       -- the entries that are left end before the first body
       apart : 2 + 12 * (i + 1) + length later ≤ at
       apart =
-          omega (
-            arith,
-            length_first (at + size) (drop (i + 1) entries),
-            length-drop (i + 1) entries,
-            filling.all,
-            filling.behind,
-          )
+          omega (arith, length_first (at + size) rest, ap length next, filling.few, filling.behind)
 
       -- then the body at its offset
-      pub fill_next : (rest : List ℕ) → rest ≡ sets (take (length between - at) (drop at between)) 0 body
-          → Filling bodies before (back between at rest) count entries (at + size) (from + size) (i + 1)
-      fill_next rest down =
-          let after = back between at rest in
-          let unput = drop (from + size) bodies in
+      fill_next : (after : List ℕ) → after ≡ sets between at body
+          → Filling contents bodies before after (at + size) (drop size unput) rest (i + 1)
+      fill_next after second =
           let listing = sets between (2 + 12 * (i + 1)) later in
-          let second : after ≡ sets between at body =
-          lent between rest body at (omega (arith, length_body, fill_room, fill_between)) down in
+          let long : length body ≡ size = length-take-le size unput fill_inside in
           record {
-            all = filling.all;
-            few = filling.few;
-            within = omega arith;
+            few = omega (arith, ap length next, filling.few);
             same = ap length second ∙ length-sets between at body ∙ fill_between ∙ filling.same;
             roomy = filling.roomy;
             small = filling.small;
             behind = omega (arith, filling.behind);
-            left = next_left;
+            ends = omega (arith, length-drop size unput, fill_inside, filling.ends);
+            steps = omega (arith, length-drop size unput, steps_next next, filling.steps, sized);
             fills =
-                ap (λ (l : List ℕ). sets (sets l (2 + 12 * (i + 1)) later) (at + size) unput) second
-                ∙ ap (λ (l : List ℕ). sets l (at + size) unput) (sets_apart later body between (2 + 12 * (i + 1)) at apart)
-                ∙ ap (λ (n : ℕ). sets (sets listing at body) (at + n) unput) (sym length_body)
-                ∙ sets_joined body unput listing (sets listing at body) _ at refl refl
-                ∙ ap (sets listing at) body_left
-                ∙ ap (λ (l : List ℕ). sets l at (drop from bodies)) listed
+                ap (λ (l : List ℕ). sets (sets l (2 + 12 * (i + 1)) later) (at + size) (drop size unput)) second
+                ∙ ap (λ (l : List ℕ). sets l (at + size) (drop size unput))
+                (sets_apart later body between (2 + 12 * (i + 1)) at apart)
+                ∙ ap (λ (n : ℕ). sets (sets listing at body) (at + n) (drop size unput)) (sym long)
+                ∙ sets_joined body (drop size unput) listing (sets listing at body) _ at refl refl
+                ∙ ap (sets listing at) (take-append-drop size unput)
+                ∙ ap (λ (l : List ℕ). sets l at unput) listed
                 ∙ filling.fills;
           }
 
-pub fill_all : (bytes : List ℕ) {bodies before out : List ℕ} {at from i : ℕ}
-    → Filling bodies before out (get_or bytes 0 0) (handed bytes) at from i → get_or bytes 0 0 ≤ i
-    → out
-    ≡ sets (sets before 2 (contents_bytes (placed (first_body (contents_in bytes).count) (counted (contents_in bytes)))))
-    (first_body (contents_in bytes).count) bodies
-unfolding contents_in
-fill_all bytes filling h = rw (counted_handed bytes filling.few) (fill_done filling h)
+    -- a turn of the loop, as the code has it
+    pub fill_turn : (entry part copy after : List ℕ) (k j : ℕ) → entry ≡ entry_bytes (placed_at at e) → part ≡ body
+        → copy ≡ part → after ≡ drop size unput → k ≡ i → j ≡ i + 1
+        → Filling contents bodies before
+        (put at (at + length part - at) (put (2 + 12 * k) (2 + 12 * k + 12 - (2 + 12 * k)) out entry) copy)
+        (at + length part) after rest j
+    fill_turn entry part copy after k j is cut same over here on =
+        let long : length body ≡ size = length-take-le size unput fill_inside in
+        let first = put_down out (entry_bytes (placed_at at e)) place (place + 12 - place)
+        (omega (arith, length_entry (placed_at at e))) (omega (arith, fill_place)) in
+        let between = put place (place + 12 - place) out (entry_bytes (placed_at at e)) in
+        let second : put at (at + size - at) between body ≡ sets between at body =
+        put_down between body at (at + size - at) (omega arith) (omega (arith, fill_room, fill_between between first)) in
+        rw (is, same, cut, over, here, on, long) (fill_next between first _ second)

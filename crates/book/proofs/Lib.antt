@@ -3,7 +3,7 @@ pub mod Refusals
 pub mod Laid
 pub mod Entries
 mod Counted
-mod Held
+pub mod Left
 mod Filling
 pub mod Books
 pub mod Ordered

@@ -2,11 +2,11 @@
 use mathlib.Core.Path.{◌≡◌, refl, sym, ◌∙◌}
 use mathlib.Core.Bool.{Bool, true, false, not, ◌&&◌, and-eq-true_iff}
 use mathlib.Core.List.{List, [], ◌∷◌, ◌++◌}
-use Prim.Native.Nat.{ℕ, ◌+◌, ◌*◌, ◌≤◌}
+use Prim.Native.Nat.{ℕ, ◌+◌, ◌*◌, ◌≤◌, ◌<◌}
 use native.Mathlib.Omega.{arith}
 use lib.Dec.{ltb, eqb}
 use lib.ListN.{length, get_or}
-use borrow.Author.Tests.{leb-true, ltb-false, eqb-true, eqb-false, le-ltb, eq-eqb, not-false}
+use borrow.Author.Tests.{leb-true, ltb-false, eqb-true, eqb-false, lt-ltb, le-ltb, eq-eqb, not-false}
 use Rattle.std.specs.Prelude.{if◌then◌else◌}
 use Rattle.basics.specs.First.{◌when◌, first_of}
 use Rattle.basics.specs.Settings.{sections_fit, mask_fits}
@@ -155,18 +155,24 @@ module _ (contents : Contents) (bodies room : ℕ) where
         roomy = ltb-false room (size contents bodies) (none 2);
       }
 
+  pub count_first : 64 < contents.count → 23 ≡ write_refusal contents bodies room
+  unfolding write_refusal
+  count_first many = rw (lt-ltb 64 contents.count many)
+
   -- behind refusal 23: the refusal of the settings, and behind those the others, on the sum of the steps and the place
   -- of the first body as the code has them
-  module _ (few : contents.count ≤ 64) (settings : ℕ) (asked : settings ≡ first_of (entries_faults (counted contents))) where
-    pub settings_first : (settings ≡ 0 → ⊥) → settings ≡ write_refusal contents bodies room
+  module _ (few : contents.count ≤ 64) where
+    pub settings_first : (number : ℕ) → number ≡ first_of (entries_faults (counted contents)) → (number ≡ 0 → ⊥)
+        → number ≡ write_refusal contents bodies room
     unfolding write_refusal
-    settings_first some =
+    settings_first number asked some =
         rw (le-ltb 64 contents.count few)
         (asked
         ∙ sym
         (first_before (entries_faults (counted contents)) (size_faults contents bodies room) (λ z. some (asked ∙ z))))
 
-    pub checks_behind : settings ≡ 0 → (steps first : ℕ) → steps ≡ steps_of (counted contents)
+    pub checks_behind : 0 ≡ first_of (entries_faults (counted contents)) → (steps first : ℕ)
+        → steps ≡ steps_of (counted contents)
         → first ≡ first_body contents.count
         → first_of
         ((30 when not (eqb bodies (4 * steps)))
@@ -179,4 +185,4 @@ module _ (contents : Contents) (bodies room : ℕ) where
         rw (summed, placed, le-ltb 64 contents.count few)
         (sym
         (first_behind (entries_faults (counted contents)) (size_faults contents bodies room)
-        (entries_numbered (counted contents)) (sym asked ∙ none)))
+        (entries_numbered (counted contents)) (sym none)))

@@ -14,6 +14,7 @@ use Rattle.basics.specs.Fields.{size_of}
 use Rattle.basics.specs.First.{FirstAt, number_of}
 use Rattle.basics.proofs.First.{first_applies}
 use Rattle.basics.proofs.One.{OneAnswer, OneContent, OnePart, one_value, one_case}
+use Rattle.basics.proofs.Refusals.{told_one}
 use Rattle.basics.specs.Table.{every}
 use Rattle.book.specs.Format.{count_in, layout, entry_in, entry_bytes, entries_of, contents_in, bytes_of, first_body}
 use Rattle.book.specs.Format.{hold_in, settings_fit, IsBook, body_of, joined, entry_fits, places, placed_at, placed, book_of}
@@ -70,7 +71,7 @@ read_into_right = read-into-met.met
 -- Two answers that the promise of a public function allows are equal, and so are two contents of the output. (`Post` is
 -- the function's `ensures`. A body is a part of the book's own slice; what is decided of it is its bytes.)
 read_unique : OneAnswer 1 read-kinds.ps read-kinds.r read-fn.Post
-read_unique κs args x y s t p q = one_value p q
+read_unique κs args x y s t p q = one_case p q
 
 hold_in_unique : OneAnswer 0 hold-in-kinds.ps hold-in-kinds.r hold-in-fn.Post
 hold_in_unique κs args x y s t p q = one_value p q
@@ -85,7 +86,7 @@ output_unique : OneContent 3 write-kinds.ps write-kinds.r write-fn.Post (λ κs 
 output_unique κs args x y s t p q = one_value p.1 q.1
 
 read_into_unique : OneAnswer 2 read-into-kinds.ps read-into-kinds.r read-into-fn.Post
-read_into_unique κs args x y s t p q = one_value p.0 q.0
+read_into_unique κs args x y s t p q = told_one x y (one_value p.0 q.0)
 
 listed_unique : OneContent 2 read-into-kinds.ps read-into-kinds.r read-into-fn.Post (λ κs exit. exit.1.0.now)
 listed_unique κs args x y s t p q = one_value p.1 q.1

@@ -7,7 +7,8 @@ use Prim.Native.Nat.{ℕ, zero, suc, ◌+◌, ◌*◌, ◌-◌, ◌≤◌, ◌<�
 use native.Mathlib.Omega.{arith}
 use lib.Dec.{eqb}
 use lib.ListN.{length, get_or, take, drop, replicate, length-append, length-drop, length-replicate, take-append-drop}
-use lib.Seq.{sets, drop_at, drop-cons, drop-drop, take_at, take_all}
+use Rattle.std.proofs.lemmas.List.{drop-replicate, length-take-le}
+use lib.Seq.{drop_at, drop-cons, drop-drop, take_at, take_all}
 use borrow.Author.Tests.{eqb-true}
 use Rattle.basics.proofs.Fields.{fields_fit_lem}
 use Rattle.basics.specs.Table.{every}
@@ -19,10 +20,10 @@ use Rattle.book.specs.Writer.{first_places, counted, steps_of, size, write_refus
 use Rattle.book.specs.declared.Entry.{Entry}
 use Rattle.book.specs.declared.Contents.{Contents}
 use Rattle.book.proofs.Refusals.{writable, not_refused_lem}
-use Rattle.book.proofs.Entries.{length_entries, accepted, not_accepted, counting}
+use Rattle.book.proofs.Entries.{length_entries, accepted, not_accepted, head_accepted}
 use Rattle.book.proofs.Counted.{length_counted}
 use Rattle.book.proofs.Laid.{length_placed, length_contents, entries_back, small_rest, entries_again}
-use Rattle.book.proofs.Laid.{contents_joined, contents_zeros, sets_same}
+use Rattle.book.proofs.Laid.{contents_joined, contents_zeros}
 use Rattle.book.proofs.Books.{length_book}
 use Rattle.book.proofs.Ordered.{order_ends, joined_rest, whole_bodies, placed_order, order_placed, fit_placed}
 use Rattle.book.proofs.Ordered.{book_exact}
@@ -159,12 +160,6 @@ module _ (book : List ℕ) (e : refusal book ≡ 0) where
       unfolding output
       again_output = rw (again_none, whole_size, read_counted, book_again)
 
-zeros_behind : (k : ℕ) (entries : List ℕ) (room : ℕ) → k ≤ 64 → length entries ≡ 12 * k → room ≡ 769
-    → sets (replicate room 0) 0 (k ∷ entries) ≡ (k ∷ entries) ++ replicate (12 * (64 - k)) 0
-zeros_behind k entries room few long all =
-    let left : room - length (k ∷ entries) ≡ 12 * (64 - k) = omega arith in
-    rw (← left) (sets_same 0 (k ∷ entries) room (omega arith))
-
 -- what is read, in bytes: the book's own behind the count, and zeros behind those
 module _ (book : List ℕ) (e : refusal book ≡ 0) (small : (i : ℕ) → get_or book i 0 < 256) where
   abbrev raw : List ℕ
@@ -189,14 +184,19 @@ module _ (book : List ℕ) (e : refusal book ≡ 0) (small : (i : ℕ) → get_o
       ∙ ap (λ (l : List ℕ). raw ++ l) (contents_zeros m ∙ ap (λ (n : ℕ). replicate n 0) left)))
 
   -- (`room` is 769; as a number it would be written out)
-  pub listed_bytes : (room end : ℕ) → room ≡ 769 → end ≡ first_body (count_in book)
-      → sets (replicate room 0) 0 (count_in book ∷ take (end - 2) (drop 2 book)) ≡ bytes_of (reading book).contents
-  listed_bytes room end all ends =
-      let number : end - 2 ≡ 12 * count_in book = omega arith in
-      let long : length raw ≡ 12 * count_in book =
-      ap length raw_entries ∙ length_contents (entries_of book) ∙ ap (λ (n : ℕ). 12 * n) (count_entries book e) in
-      ap (λ (n : ℕ). sets (replicate room 0) 0 (count_in book ∷ take n (drop 2 book))) number
-      ∙ (zeros_behind (count_in book) raw room (is_book book e).few long all ∙ sym raw_read)
+  pub listed_bytes : (room few : ℕ) → room ≡ 769 → few ≡ first_body (count_in book) - 1
+      → let listed = take few (drop 1 book) in
+      (length listed ≡ few) × (listed ++ drop few (replicate {A = ℕ} room 0) ≡ bytes_of (reading book).contents)
+  listed_bytes room few all is =
+      let b = is_book book e in
+      let ends = order_ends (length book) (first_body (count_in book)) (entries_of book) b.order in
+      let number : few ≡ suc (12 * count_in book) = omega arith in
+      let long : few ≤ length (drop 1 book) = simp length-drop (omega arith) in
+      let behind : room - few ≡ 12 * (64 - count_in book) = omega (arith, b.few) in
+      let zeros : drop few (replicate {A = ℕ} room 0) ≡ replicate (12 * (64 - count_in book)) 0 =
+      drop-replicate few room 0 ∙ ap (λ (n : ℕ). replicate n 0) behind in
+      let front : take few (drop 1 book) ≡ count_in book ∷ raw = rw (number, drop-cons book 1 0 (omega arith)) in
+      (length-take-le few (drop 1 book) long, rw (front, zeros) (sym raw_read))
 
 pub listed_book : (book : List ℕ) → ((i : ℕ) → get_or book i 0 < 256) → IsBook book
     → bytes_of (reading book).contents
@@ -224,7 +224,12 @@ read_places book = go (eqb (refusal book) 0) refl
 
 -- and no more than these count
 pub read_few : (book : List ℕ) → (reading book).contents.count ≤ 64
-read_few book = (counting book (reading book).contents.count refl).few
+unfolding reading
+read_few book = go (eqb (refusal book) 0) refl
+  where
+    go : (t : Bool) → eqb (refusal book) 0 ≡ t → (reading book).contents.count ≤ 64
+    go true h = rw h (head_accepted book (eqb-true (refusal book) 0 h)).few
+    go false h = rw h (omega arith)
 
 -- the settings of what is read fit
 pub read_fit : (book : List ℕ) → (reading book).refusal ≡ 0 → every settings_fit (counted (reading book).contents) ≡ true

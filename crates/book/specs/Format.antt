@@ -1,11 +1,12 @@
 -- The capture book (01, 'Capture book'; 02, f and g), for the reader and for the writer.
-use Rattle.std.specs.Prelude.{◌≡◌, Bool, true, not, ◌&&◌, List, [], ◌∷◌, ◌++◌, ℕ, zero, suc, ◌+◌, ◌*◌, ◌-◌, ◌≤◌, length, get_or, take, drop, replicate}
+use Rattle.std.specs.Prelude.{◌≡◌, Bool, true, not, ◌&&◌, List, [], ◌∷◌, ◌++◌, ℕ, zero, suc, ◌+◌, ◌*◌, ◌-◌, ◌/◌, ◌≤◌, length, get_or, take, drop, replicate}
 use Rattle.basics.specs.Fields.{Width, one, two, four, fields_fit, fields_at, field_bytes}
 use Rattle.basics.specs.First.{Check, ◌when◌}
 use Rattle.basics.specs.Settings.{sections_fit, mask_fits, options_fit, hold_of, settings_checks}
 use Rattle.basics.specs.Table.{every}
 use Rattle.book.specs.declared.Entry.{Entry}
 use Rattle.book.specs.declared.Contents.{Contents}
+use Rattle.book.specs.declared.format.Entries.{Entries}
 
 -- byte 0 of a book is 1, and byte 1 the count
 abbrev pub count_in : List ℕ → ℕ
@@ -47,6 +48,10 @@ entries_in (suc k) bytes = entry_in bytes ∷ entries_in k (drop 12 bytes)
 
 abbrev pub entries_of : List ℕ → List Entry
 entries_of book = entries_in (count_in book) (drop 2 book)
+
+-- the entries that an iterator over bytes has left
+abbrev pub entries_left : Entries → List Entry
+entries_left s = entries_in (length s.left.now / 12) s.left.now
 
 unfoldable pub contents_bytes : List Entry → List ℕ
 contents_bytes [] = []

@@ -1,12 +1,12 @@
 -- Writing a book: refusal 23, then entry by entry 25, 31 and 32, then 30, 20, 29 in this order (01, 'Numbered refusals'; 02,
 -- f and g).
-use Rattle.std.specs.Prelude.{if◌then◌else◌, not, List, [], ◌∷◌, ◌++◌, ℕ, zero, suc, ◌+◌, ◌*◌, ltb, eqb, length, get_or, drop}
+use Rattle.std.specs.Prelude.{if◌then◌else◌, Result, Ok, Err, not, List, [], ◌∷◌, ◌++◌, ℕ, zero, suc, ◌+◌, ◌*◌, ltb, eqb, length, get_or, drop}
 use Rattle.basics.specs.First.{Check, ◌when◌, first_of}
+use Rattle.basics.specs.Refusal.{refusal_number, refused_or}
+use Rattle.basics.specs.declared.refusal.Refusal.{Refusal}
 use Rattle.book.specs.Format.{first_body, settings_faults, most, no_entry, book_of}
 use Rattle.book.specs.declared.Entry.{Entry}
 use Rattle.book.specs.declared.Contents.{Contents}
-use Rattle.book.specs.declared.Writing.{Writing}
-use Rattle.book.specs.declared.Writing.TheVariants as answer
 
 -- the entries that count, one from each of the first k places; the places past them are not looked at
 unfoldable pub first_places : ℕ → List Entry → List Entry
@@ -48,12 +48,12 @@ pub record Wrote : Type 0 where
   pub refusal : ℕ
   pub bytes : ℕ
 
-abbrev pub writing_told : Writing → Wrote
-writing_told (answer.Written bytes) = record { refusal = 0; bytes = bytes }
-writing_told (answer.Refused number) = record { refusal = number; bytes = 0 }
+abbrev pub writing_told : Result ℕ Refusal → Wrote
+writing_told (Ok bytes) = record { refusal = 0; bytes = bytes }
+writing_told (Err e) = record { refusal = refusal_number e; bytes = 0 }
 
-abbrev pub writing_case : Wrote → Writing
-writing_case a = if eqb a.refusal 0 then answer.Written a.bytes else answer.Refused a.refusal
+abbrev pub writing_case : Wrote → Result ℕ Refusal
+writing_case a = refused_or a.refusal a.bytes
 
 unfoldable pub writing : Contents → ℕ → ℕ → Wrote
 writing contents bodies room =

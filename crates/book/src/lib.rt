@@ -2,21 +2,21 @@
 #![tactic(auto)]
 
 mod format;
-mod listing;
 mod reader;
 mod settings;
 mod writer;
 
 ghost use Rattle.basics.specs.Answer.{Answers};
+ghost use Rattle.basics.specs.Refusal.{refusal_told};
 ghost use Rattle.book.specs.Format.{hold_in, body_of, contents_in, bytes_of};
-ghost use Rattle.book.specs.Reader.{reading};
+ghost use Rattle.book.specs.Reader.{reading_told, reading_case, reading};
 ghost use Rattle.book.specs.Writer.{writing_told, writing_case, writing, output};
-ghost use Rattle.std.specs.Prelude.{length, ◌≡◌};
+ghost use Rattle.std.specs.Prelude.{length, take, ◌≡◌};
 
-use crate::format::{MOST, body_size, entry_in, first_body};
-use crate::listing::put_listed;
-use crate::reader::{NO_ENTRY, count_of, refusal_of};
-use crate::writer::{put_book, write_refusal};
+use crate::format::{Entries, MOST, body_size, first_body};
+use crate::writer::put_book;
+use basics::refusal::Refusal;
+use basics::settings::Settings;
 
 // One byte more than a book may have, so that a longer input reads as too long (refusal 20).
 pub const INPUT: usize = MOST + 1;
@@ -26,7 +26,7 @@ pub const STEPS: usize = MOST / 4;
 
 // One capture: its settings n, mask and W with a spare byte, which is 1 for hold and else 0; the offset of its body and the
 // number of its steps.
-#[derive(Clone, Copy)]
+#[derive(Clone, Copy, Debug, Default, PartialEq, Eq)]
 pub struct Entry {
     pub n: u8,
     pub spare: u8,
@@ -36,50 +36,64 @@ pub struct Entry {
     pub steps: u16,
 }
 
-#[derive(Clone, Copy)]
+impl Entry {
+    // The setting hold of a capture: spare byte 1 (02, g).
+    pub fn hold(self) -> bool
+        ensures { result ≡ hold_in self }
+    {
+        self.spare == 1
+    }
+
+    // What a controller, or the judge, is given of a capture.
+    pub fn settings(self) -> Settings
+        ensures { result ≡ record { n = self.n; hold = hold_in self; mask = self.mask; w = self.w } }
+    {
+        Settings {
+            n: self.n,
+            hold: self.hold(),
+            mask: self.mask,
+            w: self.w,
+        }
+    }
+}
+
+// (The paper's own form is a count and 64 places: those past the count read as zeros.)
+#[derive(Clone, Copy, Debug, PartialEq, Eq)]
 pub struct Contents {
     pub count: u8,
     pub entries: [Entry; 64],
 }
 
-// The contents of a book, or a refusal with zeros. (No enum: one of those cannot hold an array.)
-#[derive(Clone, Copy)]
-pub struct Reading {
-    pub refusal: u8,
-    pub contents: Contents,
+impl Contents {
+    // The entries that count.
+    pub fn captures(&self) -> &[Entry]
+        ensures { result.now ≡ take self.now.count self.now.entries }
+    {
+        let end = usize::from(self.count).min(64);
+        &self.entries[..end]
+    }
 }
 
-// The number of bytes written, or a refusal.
-#[derive(Clone, Copy)]
-pub enum Writing {
-    Written(usize),
-    Refused(u8),
-}
-
-// No entry is kept of a refused book. The places are made here alone, so that no others are copied over them.
-pub fn read(book: &[u8]) -> Reading
-    ensures { result ≡ reading book.now }
+pub fn read(book: &[u8]) -> Result<Contents, Refusal>
+    ensures { Answers reading_told reading_case (reading book.now) result }
 {
-    let refusal = refusal_of(book);
-    let count = count_of(book, refusal);
-    let mut entries = [NO_ENTRY; 64];
-    let mut i = 0;
-    while i < count as usize {
-        let place = 2 + 12 * i;
-        entries[i] = entry_in(&book[place..]);
-        i += 1;
+    reader::check(book)?;
+    let count = book[1];
+    let end = first_body(count);
+    let listed = Entries {
+        left: &book[2..end],
+    };
+    let mut entries = [Entry::default(); 64];
+    for (i, e) in listed.enumerate() {
+        entries[i] = e;
     }
-    Reading {
-        refusal,
-        contents: Contents { count, entries },
-    }
+    Ok(Contents { count, entries })
 }
 
-// The setting hold of a capture: spare byte 1 (02, g).
 pub fn hold_in(e: Entry) -> bool
     ensures { result ≡ hold_in e }
 {
-    e.spare == 1
+    e.hold()
 }
 
 // The body of a capture, a part of the book: what the book has of it, where the entry is not one that was read there.
@@ -99,30 +113,24 @@ pub fn body(book: &[u8], e: Entry) -> &[u8]
 }
 
 // Contents in 769 bytes by themselves: the count, then 64 places. They are the book's own bytes, with zeros behind them.
-pub fn read_into(book: &[u8], out: &mut [u8; 769]) -> u8
-    ensures value { result ≡ (reading book.now).refusal }
+pub fn read_into(book: &[u8], out: &mut [u8; 769]) -> Result<(), Refusal>
+    ensures value { refusal_told result ≡ (reading book.now).refusal }
     ensures out_after { out.new ≡ bytes_of (reading book.now).contents }
 {
-    let number = refusal_of(book);
-    *out = [0u8; 769];
-    if number == 0 {
-        let count = book[1];
-        let end = first_body(count);
-        put_listed(out, count, &book[2..end]);
-    }
-    number
+    *out = [0; 769];
+    reader::check(book)?;
+    let end = first_body(book[1]);
+    let listed = &book[1..end];
+    let size = listed.len();
+    out[..size].copy_from_slice(listed);
+    Ok(())
 }
 
-pub fn write(contents: &[u8; 769], bodies: &[u8], out: &mut [u8]) -> Writing
+pub fn write(contents: &[u8; 769], bodies: &[u8], out: &mut [u8]) -> Result<usize, Refusal>
     ensures answers { Answers writing_told writing_case (writing (contents_in contents.now) (length bodies.now) (length out.old)) result }
     ensures out_after { out.new ≡ output (contents_in contents.now) bodies.now out.old }
 {
-    let refusal = write_refusal(contents, bodies, out.len());
-    if refusal == 0 {
-        let size = first_body(contents[0]) + bodies.len();
-        put_book(contents, bodies, out);
-        Writing::Written(size)
-    } else {
-        Writing::Refused(refusal)
-    }
+    let size = writer::check(contents, bodies.len(), out.len())?;
+    put_book(contents, bodies, out);
+    Ok(size)
 }

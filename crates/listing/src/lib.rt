@@ -15,13 +15,12 @@ where
     P: FnMut(&mut Page<'_>, &[u8], usize, Entry) -> fmt::Result,
     requires { P.IsAlwaysCallable put_capture }
 {
-    let answer = read(book);
-    if answer.refusal != 0 {
-        return writeln!(page, "refused {}", answer.refusal);
-    }
+    let contents = match read(book) {
+        Ok(contents) => contents,
+        Err(refusal) => return writeln!(page, "{refusal}"),
+    };
     writeln!(page, "{header}")?;
-    let count = usize::from(answer.contents.count).min(64);
-    for (i, e) in answer.contents.entries[..count].iter().enumerate() {
+    for (i, e) in contents.captures().iter().enumerate() {
         put_capture(page, book, i, *e)?;
     }
     Ok(())

@@ -2,7 +2,8 @@
 use crate::digest::{of_bytes, of_contents};
 use crate::drafts::{ROOM, front};
 use crate::listing::contents_bytes;
-use book::{Contents, Entry, Writing, write};
+use basics::refusal::Refusal;
+use book::{Contents, Entry, write};
 use std::alloc::{AllocError, Global};
 use std::fmt;
 
@@ -19,26 +20,17 @@ pub(crate) const NOTHING_READ: Contents = Contents {
     }; 64],
 };
 
-pub(crate) fn read(book: &[u8]) -> Result<Contents, u8> {
-    let reading = book::read(book);
-    if reading.refusal == 0 {
-        Ok(reading.contents)
-    } else {
-        Err(reading.refusal)
-    }
-}
-
 // The number of the refusal, or 0.
-pub(crate) fn refusal<T>(answer: &Result<T, u8>) -> u8 {
+pub(crate) fn refusal<T>(answer: &Result<T, Refusal>) -> u8 {
     match answer {
         Ok(_) => 0,
-        Err(refusal) => *refusal,
+        Err(refusal) => refusal.number(),
     }
 }
 
 // Refusal, count and digest of what was read.
 #[derive(Clone, Copy)]
-pub(crate) struct Reading<'a>(pub(crate) &'a Result<Contents, u8>);
+pub(crate) struct Reading<'a>(pub(crate) &'a Result<Contents, Refusal>);
 
 impl fmt::Display for Reading<'_> {
     fn fmt<W: fmt::Write>(&self, f: &mut fmt::Formatter<W>) -> fmt::Result {
@@ -62,7 +54,7 @@ impl fmt::Display for Part<'_> {
 #[derive(Drop)]
 pub(crate) struct Written {
     out: Vec<u8>,
-    answer: Result<usize, u8>,
+    answer: Result<usize, Refusal>,
 }
 
 impl Written {
@@ -74,10 +66,7 @@ impl Written {
     ) -> Result<Written, AllocError> {
         let mut out = vec![in alloc; 238; ROOM]?;
         let room = room.min(out.len());
-        let answer = match write(&contents_bytes(contents), bodies, &mut out[..room]) {
-            Writing::Written(size) => Ok(size),
-            Writing::Refused(refusal) => Err(refusal),
-        };
+        let answer = write(&contents_bytes(contents), bodies, &mut out[..room]);
         Ok(Written { out, answer })
     }
 

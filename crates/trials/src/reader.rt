@@ -1,7 +1,8 @@
 // Refusals of the reader on the example book with something changed in it.
-use crate::answers::{Reading, read, refusal};
+use crate::answers::{Reading, refusal};
 use crate::drafts::PAPER;
 use Change::{Byte, Length};
+use book::read;
 use std::alloc::{AllocError, Global};
 use std::io;
 use std::io::Write;

@@ -1,14 +1,10 @@
 // Round trips: contents are written, the book is read, and what was read is written again.
-use crate::answers::{NOTHING_READ, Part, Reading, Written, read};
+use crate::answers::{NOTHING_READ, Part, Reading, Written};
 use crate::drafts::{Draft, ROOM};
-use book::{Contents, Entry, body};
+use book::{Contents, Entry, body, read};
 use std::alloc::{AllocError, Global};
 use std::io;
 use std::io::Write;
-
-fn entries(contents: &Contents) -> &[Entry] {
-    &contents.entries[..usize::from(contents.count).min(64)]
-}
 
 fn print_entry<W: Write>(to: &mut W, book: &[u8], e: &Entry) -> io::Result<()> {
     let Entry {
@@ -26,7 +22,7 @@ fn print_entry<W: Write>(to: &mut W, book: &[u8], e: &Entry) -> io::Result<()> {
 // The bodies of all entries, one behind the other.
 fn joined(alloc: Global, book: &[u8], contents: &Contents) -> Result<Vec<u8>, AllocError> {
     let mut bodies = Vec::new(alloc);
-    for e in entries(contents) {
+    for e in contents.captures() {
         bodies.extend_from_slice(body(book, *e))?;
     }
     Ok(bodies)
@@ -41,7 +37,7 @@ fn print_round<W: Write>(to: &mut W, alloc: Global, draft: Draft, bodies: &[u8])
         Reading(&answer)
     )?;
     let contents = answer.unwrap_or(NOTHING_READ);
-    for e in entries(&contents) {
+    for e in contents.captures() {
         print_entry(to, written.book(), e)?;
     }
     let joined = joined(alloc, written.book(), &contents)?;

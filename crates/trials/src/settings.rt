@@ -1,8 +1,9 @@
 // Settings of the last entry: each n from 0 to 16, with no section of high priority and with each one bit of the mask.
-use crate::answers::{read, refusal};
+use crate::answers::refusal;
 use crate::reader::Change::Byte;
 use crate::reader::changed;
 use crate::writer::refusal_with;
+use book::read;
 use std::alloc::{AllocError, Global};
 use std::io;
 use std::io::Write;

@@ -1,33 +1,29 @@
-use Rattle.std.proofs.Common.{ℕ, ◌+◌, length}
-use mathlib.Core.Path.{sym, ap, ◌∙◌}
+use Rattle.std.proofs.Common.{sym, ap, ◌∙◌, length}
+use Rattle.basics.proofs.Refusals.{number_some}
 use Rattle.book.specs.Format.{contents_in}
-use Rattle.book.proofs.Books.{written_answer, written_output, refused_answer, refused_output}
+use Rattle.book.specs.Writer.{Wrote}
+use Rattle.book.proofs.Books.{writing_refusal, written_output, refused_output}
 use Rattle.book.proofs.write.Goals as goal
 
-pub returns-then-refusal-eq0-clause-answers : goal.returns-then-refusal-eq0-clause-answers
-unfolding contents_in
-returns-then-refusal-eq0-clause-answers c =
+pub returns-in_err-size-clause-out_after : goal.returns-in_err-size-clause-out_after
+returns-in_err-size-clause-out_after c =
     let a = c.args in
-    let none = sym c.write_refusal-refusal.ensures ∙ c.if-refusal-eq0.true in
-    written_answer (contents_in a.contents.now) a.bodies.now a.out.now _ none
-    (ap (λ (n : ℕ). n + length a.bodies.now) c.first_body.ensures)
+    let contents = contents_in a.contents.now in
+    let told = ap (λ (w : Wrote). w.refusal) c.in_err-size.ensures.numbers in
+    refused_output contents a.bodies.now a.out.now
+    (λ z. number_some c.in_err-size.field-0.0
+    (told ∙ writing_refusal contents (length a.bodies.now) (length a.out.now) ∙ z))
 
-pub returns-then-refusal-eq0-clause-out_after : goal.returns-then-refusal-eq0-clause-out_after
-returns-then-refusal-eq0-clause-out_after c =
+pub put_book-requires : goal.put_book-requires
+put_book-requires c =
     let a = c.args in
-    let none = sym c.write_refusal-refusal.ensures ∙ c.if-refusal-eq0.true in
-    c.put_book.ensures ∙ written_output (contents_in a.contents.now) a.bodies.now a.out.now none
+    let told = ap (λ (w : Wrote). w.refusal) c.in_ok-size.ensures.numbers in
+    sym (writing_refusal (contents_in a.contents.now) (length a.bodies.now) (length a.out.now)) ∙ sym told
 
-pub returns-else-refusal-eq0-clause-answers : goal.returns-else-refusal-eq0-clause-answers
-returns-else-refusal-eq0-clause-answers c =
+pub returns-clause-out_after : goal.returns-clause-out_after
+returns-clause-out_after c =
     let a = c.args in
-    let refusal = c.write_refusal-refusal in
-    refused_answer (contents_in a.contents.now) a.bodies.now a.out.now refusal.result refusal.ensures
-    c.if-refusal-eq0.false
-
-pub returns-else-refusal-eq0-clause-out_after : goal.returns-else-refusal-eq0-clause-out_after
-returns-else-refusal-eq0-clause-out_after c =
-    let a = c.args in
-    let refusal = c.write_refusal-refusal in
-    refused_output (contents_in a.contents.now) a.bodies.now a.out.now refusal.result refusal.ensures
-    c.if-refusal-eq0.false
+    let contents = contents_in a.contents.now in
+    let told = ap (λ (w : Wrote). w.refusal) c.in_ok-size.ensures.numbers in
+    let none = sym (writing_refusal contents (length a.bodies.now) (length a.out.now)) ∙ sym told in
+    c.put_book.ensures ∙ written_output contents a.bodies.now a.out.now none

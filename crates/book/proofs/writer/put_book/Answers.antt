@@ -6,13 +6,13 @@ use Rattle.book.proofs.Books.{book_written}
 use Rattle.book.proofs.writer.put_book.Goals as goal
 
 pub bounds-out-0 : goal.bounds-out-0
-bounds-out-0 c = let w = writable (contents_in c.args.contents.now) _ _ c.requires.1 in omega arith
+bounds-out-0 c = let w = writable (contents_in c.args.contents.now) _ _ c.requires in omega arith
 
 pub bounds-out-1 : goal.bounds-out-1
 bounds-out-1 c =
-    let w = writable (contents_in c.args.contents.now) _ _ c.requires.1 in simp length-set (omega arith)
+    let w = writable (contents_in c.args.contents.now) _ _ c.requires in simp length-set (omega arith)
 
 pub returns : goal.returns
 unfolding contents_in
 returns c =
-    book_written (contents_in c.args.contents.now) c.args.bodies.now c.args.out.now _ c.put_captures.ensures c.requires.1
+    book_written (contents_in c.args.contents.now) c.args.bodies.now c.args.out.now _ c.put_captures.ensures c.requires

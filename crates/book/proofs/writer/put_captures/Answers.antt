@@ -1,50 +1,42 @@
 -- a turn of the loop writes an entry and a body
-use Rattle.std.proofs.Common.{◌≡◌, List, ◌∷◌, ℕ, ◌+◌, ◌*◌, ◌-◌, ◌<◌, length, take, drop}
-use mathlib.Core.Path.{sym, ap, ◌∙◌}
-use lib.ListN.{get_or}
-use Rattle.basics.proofs.Bytes.{rest_part}
-use Rattle.book.specs.Format.{entry_in, contents_in}
-use Rattle.book.specs.declared.Entry.{Entry}
+use Rattle.std.proofs.Common.{arith, inl, ◌≡◌, ◌∙◌}
+use Rattle.book.specs.Format.{contents_in, entries_left}
+use Rattle.book.specs.Writer.{counted}
 use Rattle.book.proofs.Refusals.{writable}
-use Rattle.book.proofs.Counted.{listed, handed, handed_next}
-use Rattle.book.proofs.Filling.{fill_start, fill_inside, fill_next, fill_all}
+use Rattle.book.proofs.Filling.{fill_start, fill_done, fill_inside, fill_turn}
 use Rattle.book.proofs.writer.put_captures.Goals as goal
 
-abbrev entry : List ℕ → ℕ → Entry
-entry contents i = entry_in (take (length contents - (1 + 12 * i)) (drop (1 + 12 * i) contents))
-
-next : (contents : List ℕ) (i : ℕ) → i < get_or contents 0 0
-    → drop i (handed contents) ≡ entry contents i ∷ drop (i + 1) (handed contents)
-next contents i h =
-    handed_next contents i h
-    ∙ ap (λ (l : List ℕ). entry_in l ∷ drop (i + 1) (handed contents)) (sym (rest_part (1 + 12 * i) contents))
+pub counted-requires : goal.counted-requires
+counted-requires c = (writable (contents_in c.args.contents.now) _ _ c.requires).few
 
 pub loop-i-init : goal.loop-i-init
+unfolding contents_in
 loop-i-init c =
-    let contents = c.args.contents.now in
-    let w = writable (contents_in contents) _ _ c.requires.1 in
-    rw c.first_body-at.ensures (
-      listed contents c.requires.0 w.few,
-      fill_start contents c.args.bodies.now c.args.out.now c.requires.1,
-    )
+    let a = c.args in
+    let contents = contents_in a.contents.now in
+    let few = (writable contents _ _ c.requires).few in
+    let same = c.into_iter-i-iterator.ensures.into_iter_gives in
+    let whole : entries_left c.into_iter-i-iterator.result.iter ≡ counted contents =
+    rw (same, c.enumerate-i-items.ensures.source) c.counted.ensures in
+    let none : c.into_iter-i-iterator.result.count ≡ 0 = rw same c.enumerate-i-items.ensures.count in
+    let filling =
+    fill_start contents a.bodies.now a.out.now _ _ c.first_body-at.result c.requires whole none c.first_body-at.ensures in
+    ((tt, tt, inl (omega (arith, filling.few))), tt, filling)
 
-pub slice_bounds-put_body-end : goal.slice_bounds-put_body-end
-slice_bounds-put_body-end c =
-    let contents = c.args.contents.now in
-    let w = c.loop-i in
-    let sized = c.body_size-size.ensures ∙ ap (λ (e : Entry). 4 * e.steps) c.entry_in-e.ensures in
-    fill_inside w.invariant.1 c.loop-i-test.true (entry contents w.i) (next contents w.i c.loop-i-test.true)
-    c.body_size-size.result sized
+pub split_at-requires : goal.split_at-requires
+split_at-requires c = fill_inside c.loop-i.invariant.2 c.in-Some.ensures.steps.0 c.body_size.result c.body_size.ensures
 
 pub loop-i-preserved : goal.loop-i-preserved
+unfolding contents_in
 loop-i-preserved c =
-    let contents = c.args.contents.now in
-    let w = c.loop-i in
-    let sized = c.body_size-size.ensures ∙ ap (λ (e : Entry). 4 * e.steps) c.entry_in-e.ensures in (
-      w.invariant.0,
-      fill_next w.invariant.1 c.loop-i-test.true (entry contents w.i) (next contents w.i c.loop-i-test.true)
-          c.body_size-size.result sized c.put_entry.new.part c.put_entry.ensures c.put_body.new.part c.put_body.ensures,
-    )
+    let s = c.in-Some.ensures.steps in
+    let cut = c.split_at in
+    let filling =
+    fill_turn c.loop-i.invariant.2 s.0 c.body_size.result c.body_size.ensures c.copy_from_slice.new.self cut.result.0.now
+    c.copy_from_slice-in-loop-i.new.self cut.result.1.now c.in-Some.i c.next.new.self.count
+    (c.copy_from_slice.ensures.after ∙ c.entry_bytes.ensures) cut.ensures.front
+    c.copy_from_slice-in-loop-i.ensures.after cut.ensures.back s.1 s.2 in
+    ((tt, tt, inl (omega (arith, filling.few))), tt, filling)
 
 pub returns : goal.returns
-returns c = fill_all c.args.contents.now c.loop-i.invariant.1 c.loop-i-test.false
+returns c = fill_done c.loop-i.invariant.2 c.in-None.ensures.steps.0.0

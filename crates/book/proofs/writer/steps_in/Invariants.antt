@@ -1,9 +1,10 @@
-use Prim.Native.Nat.{◌-◌}
-use Rattle.book.proofs.Counted.{Summing}
+use Rattle.std.proofs.Common.{◌≡◌, ◌≤◌, ◌+◌, ◌*◌, length}
+use Rattle.book.specs.Format.{entries_left}
+use Rattle.book.specs.Writer.{steps_of}
 use Rattle.book.proofs.writer.steps_in.Given as goal
 
-abbrev pub invariant-loop-i : goal.invariant-loop-i
-invariant-loop-i l = Summing l.contents l.total l.i
-
-abbrev pub decreases-loop-i : goal.decreases-loop-i
-decreases-loop-i l = l.count - l.i
+abbrev pub invariant-loop-e : goal.invariant-loop-e
+invariant-loop-e l = record {
+  bound : l.total + 65535 * length (entries_left l.e-iterator) ≤ 64 * 65535;
+  sum : l.total + steps_of (entries_left l.e-iterator) ≡ steps_of (entries_left l.listed);
+}
