@@ -22,7 +22,7 @@ ghost use Rattle.std.specs.Prelude.{length, get_or, ◌≡◌};
 
 use crate::record::{options_refusal, outcome_bytes, record_bytes, record_in, refused_bytes};
 use basics::refusal::Refusal;
-use basics::settings::sections_fit;
+use basics::settings::{Settings, sections_fit};
 use book::Writing;
 use controller::{Controller, Made};
 use explain::Verdict;
@@ -151,24 +151,22 @@ pub extern "C" fn chainplater_step(
     o.refusal
 }
 
-fn verdict_bytes(verdict: Verdict) -> [u8; 3]
+fn verdict_bytes(verdict: Result<Verdict, Refusal>) -> [u8; 3]
     ensures { result ≡ judging_bytes (told verdict) }
 {
-    match verdict {
-        Verdict::Explained(k) => [1, (k / 256) as u8, (k % 256) as u8],
-        Verdict::Unexplained(i) => [2, (i / 256) as u8, (i % 256) as u8],
-        Verdict::Refused(_) => [0, 0, 0],
-    }
+    let (kind, at) = match verdict {
+        Ok(Verdict::Explained(k)) => (1, k),
+        Ok(Verdict::Unexplained(i)) => (2, i),
+        Err(_) => (0, 0),
+    };
+    let [high, low] = at.to_be_bytes();
+    [kind, high, low]
 }
 
-fn refusal_of(verdict: Verdict) -> u8
+fn verdict_refusal(verdict: Result<Verdict, Refusal>) -> u8
     ensures { result ≡ (told verdict).refusal }
 {
-    match verdict {
-        Verdict::Explained(_) => 0,
-        Verdict::Unexplained(_) => 0,
-        Verdict::Refused(k) => k,
-    }
+    verdict.err().map_or(0, |refusal| refusal.number())
 }
 
 #[unsafe(no_mangle)]
@@ -186,9 +184,15 @@ pub extern "C" fn chainplater_judge(
         *out = [0, 0, 0];
         return 25;
     }
-    let verdict = explain::judge(n, options == 1, mask, wait, capture);
+    let settings = Settings {
+        n,
+        hold: options == 1,
+        mask,
+        w: wait,
+    };
+    let verdict = explain::judge(settings, capture);
     *out = verdict_bytes(verdict);
-    refusal_of(verdict)
+    verdict_refusal(verdict)
 }
 
 #[unsafe(no_mangle)]
@@ -208,9 +212,15 @@ pub extern "C" fn chainplater_causes(
         *out = [0, 0, 0];
         return 25;
     }
-    let verdict = explain::judge_causes(n, options == 1, mask, wait, capture, conditions, commands);
+    let settings = Settings {
+        n,
+        hold: options == 1,
+        mask,
+        w: wait,
+    };
+    let verdict = explain::judge_causes(settings, capture, conditions, commands);
     *out = verdict_bytes(verdict);
-    refusal_of(verdict)
+    verdict_refusal(verdict)
 }
 
 #[unsafe(no_mangle)]

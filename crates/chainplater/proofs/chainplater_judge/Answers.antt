@@ -21,6 +21,6 @@ returns c =
     record {
       answer = told c.judge-verdict.result;
       right = rw (le-leb c.args.options 1 c.if-options-gt1.false) c.judge-verdict.ensures;
-      number = c.refusal_of.ensures;
+      number = c.verdict_refusal.ensures;
       bytes = c.verdict_bytes.ensures;
     }
