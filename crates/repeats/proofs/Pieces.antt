@@ -1,171 +1,225 @@
--- Pieces of bytes that are alike, and runs of rows made of them.
+-- Pieces of bytes that are alike, how many are, one behind the other, and that blocks of a row are rows.
 use mathlib.Core.Path.{◌≡◌, refl, sym, ap, subst, ◌∙◌}
 use mathlib.Core.Bool.{Bool, true, false, ◌&&◌, and-eq-true_iff}
-use mathlib.Core.List.{List}
-use mathlib.Core.Logic.{◌⊎◌, inl, inr, ⊎_elim}
-use Prim.Native.Nat.{ℕ, zero, suc, ◌+◌, ◌-◌, ◌%◌, ◌≤◌, ◌<◌}
-use native.Mathlib.Numerals.{add-one}
+use mathlib.Core.List.{List, [], ◌∷◌, ◌++◌}
+use mathlib.Core.Logic.{◌⊎◌, inl, inr}
+use Prim.Native.Nat.{ℕ, zero, suc, ◌+◌, ◌-◌, ◌*◌, ◌/◌, ◌%◌, ◌≤◌, ◌<◌}
 use native.Mathlib.Omega.{arith}
-use lib.Dec.{ltb, eqb}
-use lib.ListN.{length, get_or}
-use borrow.Author.Tests.{eqb-true, eqb-false, eq-eqb, ltb-true, ltb-false}
-use Rattle.repeats.specs.Repeats.{alike, Uniform, Gone, Past, Run}
+use lib.Dec.{eqb}
+use lib.ListN.{length, get_or, take, drop, length-append, length-drop, drop_of_length-le}
+use lib.Seq.{drop-cons}
+use Rattle.std.proofs.lemmas.List.{take-append-drop, drop-drop}
+use Rattle.std.proofs.lemmas.Slice.{between_to_end}
+use native.Mathlib.Numerals.{add-one}
+use borrow.Author.Tests.{eqb-true}
+use Rattle.std.specs.Prelude.{if◌then◌else◌}
+use Rattle.std.specs.Simd.{first_chunks}
+use Rattle.repeats.specs.Repeats.{alike, leading, rows_in}
 
-module _ (bytes : List ℕ) (piece at : ℕ) where
-  abbrev Same : ℕ → Type 0
-  Same i = get_or bytes (piece + i) 0 ≡ get_or bytes (at + i) 0
+-- two pieces compared from the front: what was seen, and what is left
+pub alike_next : (all : Bool) {whole : Bool} {xs ys xs' ys' : List ℕ} (a b : ℕ) → all && alike xs ys ≡ whole → xs ≡ a ∷ xs'
+    → ys ≡ b ∷ ys' → (all && eqb a b) && alike xs' ys' ≡ whole
+alike_next false a b e f g = e
+alike_next true a b e f g = rw (f, g) at e
 
-  abbrev test : ℕ → Bool
-  test i = eqb (get_or bytes (piece + i) 0) (get_or bytes (at + i) 0)
+pub alike_end : (all : Bool) {whole : Bool} (xs ys : List ℕ) → all && alike xs ys ≡ whole → length xs ≡ length ys
+    → (length xs ≡ 0) ⊎ (length ys ≡ 0) → all ≡ whole
+alike_end false xs ys e same none = e
+alike_end true [] [] e same none = e
+alike_end true (x ∷ xs) (y ∷ ys) e same (inl none) = absurd (omega arith)
+alike_end true (x ∷ xs) (y ∷ ys) e same (inr none) = absurd (omega arith)
+alike_end true (x ∷ xs) [] e same none = absurd (omega arith)
+alike_end true [] (y ∷ ys) e same none = absurd (omega arith)
 
-  pub alike_on : (i : ℕ) {all : Bool} → all ≡ alike bytes piece at i → all && test i ≡ alike bytes piece at (i + 1)
-  alike_on i so = ap (λ (t : Bool). t && test i) so ∙ ap (alike bytes piece at) (sym (add-one i))
+pub alike_equal : (xs ys : List ℕ) → alike xs ys ≡ true → xs ≡ ys
+alike_equal [] [] e = refl
+alike_equal (x ∷ xs) (y ∷ ys) e =
+    let both = (and-eq-true_iff (eqb x y) (alike xs ys)).0 e in
+    ap (λ (k : ℕ). k ∷ xs) (eqb-true x y both.0) ∙ ap (λ (l : List ℕ). y ∷ l) (alike_equal xs ys both.1)
+alike_equal [] (y ∷ ys) e = cc
+alike_equal (x ∷ xs) [] e = cc
 
-  alike_at : (size : ℕ) → alike bytes piece at size ≡ true → (i : ℕ) → i < size → Same i
-  alike_at zero all i h = absurd (omega arith)
-  alike_at (suc size) all i h =
-      let both = (and-eq-true_iff (alike bytes piece at size) (test size)).0 all in
-      go (eqb i size) refl (alike_at size both.0 i)
-      (eqb-true (get_or bytes (piece + size) 0) (get_or bytes (at + size) 0) both.1)
+module _ (piece : List ℕ) (pieces : List (List ℕ)) where
+  -- of the pieces those before a place are alike
+  pub record Led (number : ℕ) : Type 0 where
+    pub led : leading piece pieces ≡ number + leading piece (drop number pieces)
+
+  pub led_start : Led 0
+  led_start = record { led = omega arith }
+
+  module _ {number : ℕ} (k : Led number) where
+    pub led_all : length pieces ≤ number → number ≤ length pieces → length pieces ≡ leading piece pieces
+    led_all none within =
+        let e = k.led ∙ ap (λ (l : List (List ℕ)). number + leading piece l) (drop_of_length-le pieces {i = number} none) in
+        omega arith
+
+    module _ {next : List ℕ} (inside : number < length pieces) (is : next ≡ get_or pieces number next) where
+      split : drop number pieces ≡ next ∷ drop (number + 1) pieces
+      split = drop-cons pieces number next inside ∙ ap (λ (p : List ℕ). p ∷ drop (suc number) pieces) (sym is) ∙ rw (add-one number)
+
+      more : leading piece pieces ≡ number + leading piece (next ∷ drop (number + 1) pieces)
+      more = k.led ∙ ap (λ (l : List (List ℕ)). number + leading piece l) split
+
+      pub led_next : alike piece next ≡ true → Led (number + 1)
+      led_next same = record { led = let e = rw same at more in omega arith }
+
+      pub led_stops : alike piece next ≡ false → number ≡ leading piece pieces
+      led_stops other = let e = rw other at more in omega arith
+
+-- no more than there are
+pub leading_few : (piece : List ℕ) (pieces : List (List ℕ)) → leading piece pieces ≤ length pieces
+leading_few piece [] = omega arith
+leading_few piece (next ∷ rest) = go (alike piece next) (leading_few piece rest)
+  where
+    go : (t : Bool) → leading piece rest ≤ length rest → (if t then suc (leading piece rest) else 0) ≤ suc (length rest)
+    go true few = omega arith
+    go false few = omega arith
+
+-- pieces and others behind them
+module _ (piece : List ℕ) where
+  pub leading_short : (xs ys : List (List ℕ)) → leading piece xs < length xs → leading piece (xs ++ ys) ≡ leading piece xs
+  leading_short [] ys few = absurd (omega arith)
+  leading_short (x ∷ xs) ys few = go (alike piece x) few (leading_short xs ys)
     where
-      go : (t : Bool) → eqb i size ≡ t → (i < size → Same i) → Same size → Same i
-      go true e before last = rw (eqb-true i size e) last
-      go false e before last = let other = eqb-false i size e in before (omega arith)
+      go : (t : Bool) → (if t then suc (leading piece xs) else 0) < suc (length xs)
+          → (leading piece xs < length xs → leading piece (xs ++ ys) ≡ leading piece xs)
+          → (if t then suc (leading piece (xs ++ ys)) else 0) ≡ (if t then suc (leading piece xs) else 0)
+      go true few later = ap (λ (n : ℕ). suc n) (later (omega arith))
+      go false few later = refl
 
-  pub alike_all : (size : ℕ) → ((i : ℕ) → i < size → Same i) → alike bytes piece at size ≡ true
-  alike_all zero same = refl
-  alike_all (suc size) same =
-      let before = alike_all size (λ i few. same i (omega arith)) in
-      let last = eq-eqb (get_or bytes (piece + size) 0) (get_or bytes (at + size) 0) (same size (omega arith)) in
-      rw (before, last)
-
--- a row is a piece by itself
-pub row_uniform : (bytes : List ℕ) (row : ℕ) → row + 4 ≤ length bytes → Uniform bytes row 4
-row_uniform bytes row room =
-    record {
-      some = omega arith;
-      whole = refl;
-      within = room;
-      rows = λ i few. let is : i ≡ i % 4 = omega arith in ap (λ (k : ℕ). get_or bytes (row + k) 0) is;
-    }
-
--- a piece that is alike is a run by itself
-piece_gone : (bytes : List ℕ) (row at : ℕ) {size : ℕ} → Uniform bytes row size → alike bytes row at size ≡ true
-    → Gone bytes row at (at + size)
-piece_gone bytes row at {size} uniform all =
-    let whole = uniform.whole in
-    record {
-      later = omega arith;
-      whole = omega arith;
-      same = λ i few. sym (alike_at bytes row at size all i (omega arith)) ∙ uniform.rows i (omega arith);
-    }
-
-module _ {bytes : List ℕ} {row from : ℕ} where
-  pub gone_start : Gone bytes row from from
-  gone_start = record { later = omega arith; whole = omega arith; same = λ i few. absurd (omega arith) }
-
-  -- one run behind another
-  gone_on : {middle at : ℕ} → Gone bytes row from middle → Gone bytes row middle at → Gone bytes row from at
-  gone_on {middle} {at} one two =
-      let later = one.later in
-      let later2 = two.later in
-      let whole = one.whole in
-      let whole2 = two.whole in
-      record { later = omega arith; whole = omega arith; same = same }
+  pub leading_whole : (xs ys : List (List ℕ)) → length xs ≤ leading piece xs
+      → leading piece (xs ++ ys) ≡ length xs + leading piece ys
+  leading_whole [] ys all = omega arith
+  leading_whole (x ∷ xs) ys all = go (alike piece x) all (leading_whole xs ys)
     where
-      same : (i : ℕ) → from + i < at → get_or bytes (from + i) 0 ≡ get_or bytes (row + i % 4) 0
-      same i few = go (ltb (from + i) middle) refl
-        where
-          go : (t : Bool) → ltb (from + i) middle ≡ t → get_or bytes (from + i) 0 ≡ get_or bytes (row + i % 4) 0
-          go true e = one.same i (ltb-true (from + i) middle e)
-          go false e =
-              let behind = ltb-false (from + i) middle e in
-              let later = one.later in
-              let whole = one.whole in
-              let k = from + i - middle in
-              let here : middle + k ≡ from + i = omega arith in
-              let column : k % 4 ≡ i % 4 = omega arith in
-              ap (λ (j : ℕ). get_or bytes j 0) (sym here)
-              ∙ two.same k (omega arith)
-              ∙ ap (λ (j : ℕ). get_or bytes (row + j) 0) column
+      go : (t : Bool) → suc (length xs) ≤ (if t then suc (leading piece xs) else 0)
+          → (length xs ≤ leading piece xs → leading piece (xs ++ ys) ≡ length xs + leading piece ys)
+          → (if t then suc (leading piece (xs ++ ys)) else 0) ≡ suc (length xs) + leading piece ys
+      go true all later = let e = later (omega arith) in omega arith
+      go false all later = absurd (omega arith)
 
-  -- one more piece that is alike
-  pub gone_next : {at size : ℕ} → Uniform bytes row size → Gone bytes row from at → alike bytes row at size ≡ true
-      → Gone bytes row from (at + size)
-  gone_next {at} {size} uniform gone all = gone_on gone (piece_gone bytes row at uniform all)
+-- the rows of bytes, one by one
+pub rows_four : (a b c d : ℕ) (rest : List ℕ) → rows_in (a ∷ b ∷ c ∷ d ∷ rest) ≡ (a ∷ b ∷ c ∷ d ∷ []) ∷ rows_in rest
+rows_four a b c d rest =
+    let more : length (a ∷ b ∷ c ∷ d ∷ rest) / 4 ≡ suc (length rest / 4) = omega arith in
+    rw more refl
 
-  -- a run of as many bytes is a piece whose rows are all the same
-  gone_uniform : (size : ℕ) → 0 < size → size % 4 ≡ 0 → Gone bytes row from (from + size) → from + size ≤ length bytes
-      → Uniform bytes from size
-  gone_uniform size some whole gone room = record { some = some; whole = whole; within = room; rows = rows }
-    where
-      rows : (i : ℕ) → i < size → get_or bytes (from + i) 0 ≡ get_or bytes (from + i % 4) 0
-      rows i few =
-          let column : i % 4 % 4 ≡ i % 4 = omega arith in
-          gone.same i (omega arith)
-          ∙ sym (gone.same (i % 4) (omega arith) ∙ ap (λ (k : ℕ). get_or bytes (row + k) 0) column)
+pub rows_many : (bytes : List ℕ) → length (rows_in bytes) ≡ length bytes / 4
+rows_many bytes = chunks_many (length bytes / 4) bytes
+  where
+    chunks_many : (k : ℕ) (xs : List ℕ) → length (first_chunks 4 k xs) ≡ k
+    chunks_many zero xs = refl
+    chunks_many (suc k) xs = ap (λ (n : ℕ). suc n) (chunks_many k (drop 4 xs))
 
-  -- a run, and behind it a run of its own first row
-  gone_like : {middle at : ℕ} → from + 4 ≤ middle → Gone bytes row from middle → Gone bytes from middle at
-      → Gone bytes row middle at
-  gone_like {middle} {at} some one two =
-      record {
-        later = two.later;
-        whole = two.whole;
-        same =
-            λ i few.
-            let column : i % 4 % 4 ≡ i % 4 = omega arith in
-            two.same i few ∙ one.same (i % 4) (omega arith) ∙ ap (λ (k : ℕ). get_or bytes (row + k) 0) column;
-      }
+rows_appended : (xs ys : List ℕ) → length xs % 4 ≡ 0 → rows_in (xs ++ ys) ≡ rows_in xs ++ rows_in ys
+rows_appended (a ∷ b ∷ c ∷ d ∷ xs) ys whole =
+    rows_four a b c d (xs ++ ys)
+    ∙ ap (λ (l : List (List ℕ)). (a ∷ b ∷ c ∷ d ∷ []) ∷ l) (rows_appended xs ys (omega arith))
+    ∙ ap (λ (l : List (List ℕ)). l ++ rows_in ys) (sym (rows_four a b c d xs))
+rows_appended (a ∷ b ∷ c ∷ []) ys whole = absurd (omega arith)
+rows_appended (a ∷ b ∷ []) ys whole = absurd (omega arith)
+rows_appended (a ∷ []) ys whole = absurd (omega arith)
+rows_appended [] ys whole = refl
 
--- The first block of a run ends with the bytes, if they are few, or behind sixteen rows.
-abbrev pub Near : ℕ → ℕ → ℕ → Type 0
-Near size at first = ((size - at < 64) × (first ≡ size)) ⊎ ((64 ≤ size - at) × (first ≡ at + 64))
+-- rows behind a block of them
+module _ (row block : List ℕ) (size : length block ≡ 64) where
+  many : length (rows_in block) ≡ 16
+  many = rows_many block ∙ ap (λ (n : ℕ). n / 4) size
 
-pub near_within : (size at first : ℕ) → at ≤ size → Near size at first → (at ≤ first) × (first ≤ size)
-near_within size at first inside =
-    ⊎_elim (λ short. let is = short.1 in (omega arith, omega arith))
-    (λ long. let room = long.0 in let is = long.1 in (omega arith, omega arith))
+  joined : (behind : List ℕ) → rows_in (block ++ behind) ≡ rows_in block ++ rows_in behind
+  joined behind = rows_appended block behind (ap (λ (n : ℕ). n % 4) size)
 
-module _ {bytes : List ℕ} {row at first rows : ℕ} (past : Past bytes row at 4 first rows) (inside : at ≤ length bytes)
-    (near : Near (length bytes) at first) where
-  -- a run that does not fill it
-  pub run_short : rows - at < 64 → Run bytes row at rows
-  run_short few =
-      let later = past.gone.later in
-      let whole = past.gone.whole in
-      let within = past.within in
-      record {
-        gone = past.gone;
-        within = let there = (near_within (length bytes) at first inside near).1 in omega arith;
-        ended =
-            ⊎_elim
-            (λ over.
-            ⊎_elim (λ short. let is = short.1 in inl (omega arith)) (λ long. let is = long.1 in absurd (omega arith)) near) inr
-            past.ended;
-      }
+  pub block_short : (behind : List ℕ) → leading row (rows_in block) < 16
+      → leading row (rows_in block) ≡ leading row (rows_in (block ++ behind))
+  block_short behind few =
+      let long = many in
+      sym (ap (leading row) (joined behind) ∙ leading_short row (rows_in block) (rows_in behind) (omega arith))
 
-  -- and one that does
-  module _ (many : 64 ≤ rows - at) where
-    block_whole : rows ≡ at + 64
-    block_whole =
-        let within = past.within in
-        ⊎_elim (λ short. let few = short.0 in let is = short.1 in absurd (omega arith))
-        (λ long. let is = long.1 in omega arith) near
+  module _ (all : 16 ≤ leading row (rows_in block)) where
+    pub block_whole : (behind : List ℕ) → leading row (rows_in (block ++ behind)) ≡ 16 + leading row (rows_in behind)
+    block_whole behind =
+        let long = many in
+        ap (leading row) (joined behind)
+        ∙ leading_whole row (rows_in block) (rows_in behind) (omega arith)
+        ∙ ap (λ (n : ℕ). n + leading row (rows_in behind)) many
 
-    pub block_uniform : Uniform bytes at 64
-    block_uniform =
-        let within = past.within in
-        let there = (near_within (length bytes) at first inside near).1 in
-        gone_uniform 64 (omega arith) refl (subst (λ (k : ℕ). Gone bytes row at k) block_whole past.gone)
-        (let is = block_whole in omega arith)
+    -- and so do as many blocks as are that one
+    pub record Blocks (behind : List ℕ) (blocks : ℕ) : Type 0 where
+      pub within : blocks * 64 ≤ length behind
+      pub rows : leading row (rows_in behind) ≡ blocks * 16 + leading row (rows_in (drop (blocks * 64) behind))
 
-    module _ {blocks : ℕ} (more : Past bytes at rows 64 (length bytes) blocks) where
-      pub run_whole : {end : ℕ} → Run bytes row blocks end → Run bytes row at end
-      run_whole rest =
-          let is = block_whole in
-          record {
-            gone = gone_on (gone_on past.gone (gone_like (omega arith) past.gone more.gone)) rest.gone;
-            within = rest.within;
-            ended = rest.ended;
-          }
+    none_alike : (behind : List ℕ) → Blocks behind 0
+    none_alike behind = record { within = omega arith; rows = omega arith }
+
+    pub blocks_rows : (k : ℕ) (behind : List ℕ) → k * 64 ≤ length behind → Blocks behind (leading block (first_chunks 64 k behind))
+    blocks_rows zero behind room = none_alike behind
+    blocks_rows (suc k) behind room =
+        go (alike block (take 64 behind)) refl
+        (blocks_rows k (drop 64 behind) (let long : length (drop 64 behind) ≡ length behind - 64 = length-drop 64 behind in omega arith))
+      where
+        go : (t : Bool) → alike block (take 64 behind) ≡ t
+            → Blocks (drop 64 behind) (leading block (first_chunks 64 k (drop 64 behind)))
+            → Blocks behind (if t then suc (leading block (first_chunks 64 k (drop 64 behind))) else 0)
+        go true same later =
+            let n = leading block (first_chunks 64 k (drop 64 behind)) in
+            let long : length (drop 64 behind) ≡ length behind - 64 = length-drop 64 behind in
+            let within = later.within in
+            let one : block ++ drop 64 behind ≡ behind =
+            ap (λ (l : List ℕ). l ++ drop 64 behind) (alike_equal block (take 64 behind) same) ∙ take-append-drop 64 behind in
+            let on : 64 + n * 64 ≡ suc n * 64 = omega arith in
+            let rest : drop (n * 64) (drop 64 behind) ≡ drop (suc n * 64) behind = drop-drop (n * 64) 64 behind ∙ ap (λ (m : ℕ). drop m behind) on in
+            record {
+              within = omega arith;
+              rows =
+                  ap (λ (l : List ℕ). leading row (rows_in l)) (sym one)
+                  ∙ block_whole (drop 64 behind)
+                  ∙ ap (λ (m : ℕ). 16 + m)
+                  (later.rows ∙ ap (λ (l : List ℕ). n * 16 + leading row (rows_in l)) rest)
+                  ∙ omega arith;
+            }
+        go false other later = none_alike behind
+
+-- the first block of bytes, and what stands behind it
+pub record Parts (bytes block behind : List ℕ) : Type 0 where
+  pub size : length block ≡ 64
+  pub joined : block ++ behind ≡ bytes
+
+pub parts : {bytes block behind : List ℕ} → block ≡ take 64 bytes → behind ≡ drop 64 bytes
+    → length behind + 64 ≡ length bytes → Parts bytes block behind
+parts {bytes} {block} {behind} front back long =
+    let joined : block ++ behind ≡ bytes =
+    ap (λ (l : List ℕ). l ++ behind) front ∙ ap (λ (l : List ℕ). take 64 bytes ++ l) back ∙ take-append-drop 64 bytes in
+    record { size = omega (arith, ap length joined, length-append block behind); joined = joined }
+
+module _ (row : List ℕ) {bytes block behind : List ℕ} (p : Parts bytes block behind) where
+  pub run_short : {rows : ℕ} → rows ≡ leading row (rows_in block) → rows < 16 → rows ≡ leading row (rows_in bytes)
+  run_short is few =
+      is
+      ∙ block_short row block p.size behind (omega arith)
+      ∙ ap (λ (l : List ℕ). leading row (rows_in l)) p.joined
+
+  module _ {rows blocks : ℕ} (is : rows ≡ leading row (rows_in block)) (all : 16 ≤ rows)
+      (b : blocks ≡ leading block (first_chunks 64 (length behind / 64) behind)) where
+    whole : 16 ≤ leading row (rows_in block)
+    whole = omega arith
+
+    sixteen : rows ≡ 16
+    sixteen =
+        let size = p.size in
+        omega (arith, leading_few row (rows_in block), rows_many block)
+
+    found : Blocks row block p.size whole behind blocks
+    found =
+        subst (Blocks row block p.size whole behind) (sym b)
+        (blocks_rows row block p.size whole (length behind / 64) behind (omega arith))
+
+    module _ {last : ℕ} (l : last ≡ leading row (rows_in (take (length behind - blocks * 64) (drop (blocks * 64) behind)))) where
+      rest : last ≡ leading row (rows_in (drop (blocks * 64) behind))
+      rest = l ∙ ap (λ (l : List ℕ). leading row (rows_in l)) (between_to_end behind (blocks * 64) (length behind) (omega arith))
+
+      pub run_whole : rows + blocks * 16 + last ≡ leading row (rows_in bytes)
+      run_whole =
+          let after = found.rows in
+          let once = sixteen in
+          let more = rest in
+          omega (arith, block_whole row block p.size whole behind, ap (λ (l : List ℕ). leading row (rows_in l)) p.joined)

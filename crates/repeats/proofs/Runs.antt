@@ -2,16 +2,17 @@
 use mathlib.Core.Path.{◌≡◌, refl, sym, ap, subst, ◌∙◌}
 use mathlib.Core.Bool.{Bool, true, false, ◌&&◌, and-eq-true_iff, false≢true}
 use mathlib.Core.List.{List, [], ◌∷◌}
-use mathlib.Core.Logic.{◌⊎◌, ⊎_elim}
-use Prim.Native.Nat.{ℕ, zero, suc, ◌+◌, ◌-◌, ◌*◌, ◌/◌, ◌%◌, ◌≤◌, ◌<◌}
+use Prim.Native.Nat.{ℕ, zero, suc, ◌+◌, ◌-◌, ◌*◌, ◌≤◌, ◌<◌}
 use native.Mathlib.Omega.{arith}
 use lib.Dec.{ltb, eqb}
-use lib.ListN.{length, get_or, drop, length-drop}
-use borrow.Author.Tests.{eqb-true, eq-eqb, ltb-true, ltb-false, le-ltb}
+use lib.ListN.{length, get_or, take, drop, length-drop}
+use lib.Seq.{get_or-drop}
+use borrow.Author.Tests.{eqb-true, eq-eqb, le-ltb}
+use Rattle.std.proofs.lemmas.Slice.{between_to_end}
 use Rattle.basics.specs.Capture.{Row, rows_of, row_at}
-use Rattle.basics.proofs.Rows.{rows_long, row_here}
-use Rattle.repeats.specs.Repeats.{back, same_row, run_of, repeated, alike, Run}
-use Rattle.repeats.proofs.Pieces.{alike_all}
+use Rattle.basics.proofs.Rows.{rows_long}
+use Rattle.repeats.specs.Repeats.{back, same_row, run_of, repeated, leading, rows_in}
+use Rattle.repeats.proofs.Pieces.{rows_four}
 
 -- rows are the same exactly if they are equal
 pub same_is : (p q : Row) → same_row p q ≡ true → p ≡ q
@@ -65,82 +66,54 @@ module _ (r : Row) where
           let there : q ≡ r = rw e at is in
           false≢true (sym e ∙ ap (same_row r) there ∙ is_same r)
 
-no_rows : (rows : List Row) → length rows ≡ 0 → rows ≡ []
-no_rows [] e = refl
-no_rows (r ∷ rows) e = absurd (omega arith)
+-- the row that stands at a place, as a piece of bytes
+four_taken : (bytes : List ℕ) → 4 ≤ length bytes
+    → take 4 bytes ≡ get_or bytes 0 0 ∷ get_or bytes 1 0 ∷ get_or bytes 2 0 ∷ get_or bytes 3 0 ∷ []
+four_taken (a ∷ b ∷ c ∷ d ∷ rest) room = refl
+four_taken (a ∷ b ∷ c ∷ []) room = absurd (omega arith)
+four_taken (a ∷ b ∷ []) room = absurd (omega arith)
+four_taken (a ∷ []) room = absurd (omega arith)
+four_taken [] room = absurd (omega arith)
 
-module _ (bytes : List ℕ) (row : ℕ) where
-  abbrev Ended : ℕ → Type 0
-  Ended at = (length bytes < at + 4) ⊎ (alike bytes row at 4 ≡ false)
+four_same : (p q r s : Bool) → (p && (q && (r && (s && true)))) ≡ (p && q && r && s)
+four_same false q r s = refl
+four_same true false r s = refl
+four_same true true false s = refl
+four_same true true true false = refl
+four_same true true true true = refl
 
-  abbrev run : ℕ → ℕ
-  run at = run_of (row_at bytes row) (rows_of (drop at bytes))
-
-  -- four bytes are a row
-  alike_row : (at : ℕ) → alike bytes row at 4 ≡ same_row (row_at bytes row) (row_at bytes at)
-  alike_row at =
-      let here : at + 0 ≡ at = omega arith in
-      let first : row + 0 ≡ row = omega arith in
-      λ i.
-      eqb (get_or bytes (first i) 0) (get_or bytes (here i) 0)
-      && eqb (get_or bytes (row + 1) 0) (get_or bytes (at + 1) 0)
-      && eqb (get_or bytes (row + 2) 0) (get_or bytes (at + 2) 0)
-      && eqb (get_or bytes (row + 3) 0) (get_or bytes (at + 3) 0)
-
-  ended_none : (at : ℕ) → Ended at → run at ≡ 0
-  ended_none at ended = go (ltb (length bytes) (at + 4)) refl
-    where
-      short : length bytes < at + 4 → run at ≡ 0
-      short few =
-          let long = rows_long (drop at bytes) in
-          let rest : length (drop at bytes) ≡ length bytes - at = length-drop at bytes in
-          ap (run_of (row_at bytes row)) (no_rows (rows_of (drop at bytes)) (long ∙ omega arith))
-
-      go : (t : Bool) → ltb (length bytes) (at + 4) ≡ t → run at ≡ 0
-      go true e = short (ltb-true (length bytes) (at + 4) e)
-      go false e =
-          let room = ltb-false (length bytes) (at + 4) e in
-          ⊎_elim short
-          (λ differs.
-          let other = sym (alike_row at) ∙ differs in ap (run_of (row_at bytes row)) (row_here bytes at room) ∙ (rw other refl)) ended
-
-  run_long : (k at : ℕ) → at + 4 * k ≤ length bytes
-      → ((i : ℕ) → i < 4 * k → get_or bytes (at + i) 0 ≡ get_or bytes (row + i % 4) 0) → Ended (at + 4 * k) → run at ≡ k
-  run_long zero at room same ended = let here : at + 4 * 0 ≡ at = omega arith in ended_none at (rw here at ended)
-  run_long (suc k) at room same ended =
-      let on : at + 4 + 4 * k ≡ at + 4 * suc k = omega arith in
-      let first : same_row (row_at bytes row) (row_at bytes at) ≡ true =
-      sym (alike_row at)
-      ∙ alike_all bytes row at 4
-      (λ i few.
-      let column : i % 4 ≡ i = omega arith in
-      sym (same i (omega arith) ∙ ap (λ (j : ℕ). get_or bytes (row + j) 0) column)) in
-      let rest =
-      run_long k (at + 4) (omega arith)
-      (λ i few.
-      let here : at + 4 + i ≡ at + (i + 4) = omega arith in
-      let column : (i + 4) % 4 ≡ i % 4 = omega arith in
-      ap (λ (j : ℕ). get_or bytes j 0) here ∙ same (i + 4) (omega arith) ∙ ap (λ (j : ℕ). get_or bytes (row + j) 0) column)
-      (rw on ended) in
-      ap (run_of (row_at bytes row)) (row_here bytes at (omega arith)) ∙ (rw first (ap suc rest))
-
-  -- a run of bytes up to its end
-  run_is : (at end : ℕ) → Run bytes row at end → (end - at) / 4 ≡ run at
-  run_is at end past =
-      let later = past.gone.later in
-      let whole = past.gone.whole in
-      let within = past.within in
-      let is : at + 4 * ((end - at) / 4) ≡ end = omega arith in
-      sym
-      (run_long ((end - at) / 4) at (omega arith) (λ i few. past.gone.same i (omega arith)) (rw is past.ended))
+-- rows that are alike as bytes are the same
+pub leading_run : (r : Row) (bytes : List ℕ) → leading (r.k1 ∷ r.k2 ∷ r.sent_k1 ∷ r.sent_k2 ∷ []) (rows_in bytes) ≡ run_of r (rows_of bytes)
+leading_run r (a ∷ b ∷ c ∷ d ∷ rest) =
+    rw (rows_four a b c d rest, four_same (eqb r.k1 a) (eqb r.k2 b) (eqb r.sent_k1 c) (eqb r.sent_k2 d), leading_run r rest) refl
+leading_run r (a ∷ b ∷ c ∷ []) = refl
+leading_run r (a ∷ b ∷ []) = refl
+leading_run r (a ∷ []) = refl
+leading_run r [] = refl
 
 module _ (bytes : List ℕ) where
   -- what the function answers
-  pub repeated_run : (at end : ℕ) → back ≤ at → Run bytes (at - back) at end → (end - at) / 4 ≡ repeated bytes at
-  repeated_run at end h past = rw (le-ltb at back h) (run_is bytes (at - back) at end past)
-
-  pub repeated_none : (at : ℕ) → back ≤ at → Ended bytes (at - back) at → 0 ≡ repeated bytes at
-  repeated_none at h ended = rw (le-ltb at back h) (sym (ended_none bytes (at - back) at ended))
+  pub repeated_run : (at : ℕ) → back ≤ at → {row : List ℕ} → at ≤ length bytes
+      → row ≡ take 4 (take (length bytes - (at - back)) (drop (at - back) bytes))
+      → leading row (rows_in (take (length bytes - at) (drop at bytes))) ≡ repeated bytes at
+  repeated_run at first {row} inside is =
+      let here : at - back + 0 ≡ at - back = omega arith in
+      let long : length (drop (at - back) bytes) ≡ length bytes - (at - back) = length-drop (at - back) bytes in
+      let four : row ≡ get_or bytes (at - back) 0 ∷ get_or bytes (at - back + 1) 0 ∷ get_or bytes (at - back + 2) 0 ∷ get_or bytes (at - back + 3) 0 ∷ [] =
+      is
+      ∙ ap (take 4) (between_to_end bytes (at - back) (length bytes) (omega arith))
+      ∙ four_taken (drop (at - back) bytes) (omega arith)
+      ∙ rw (
+        get_or-drop (at - back) bytes 0 0,
+        get_or-drop (at - back) bytes 1 0,
+        get_or-drop (at - back) bytes 2 0,
+        get_or-drop (at - back) bytes 3 0,
+        here,
+      ) refl in
+      rw (le-ltb at back first)
+      (ap (λ (l : List ℕ). leading row (rows_in l)) (between_to_end bytes at (length bytes) (omega arith))
+      ∙ ap (λ (r : List ℕ). leading r (rows_in (drop at bytes))) four
+      ∙ leading_run (row_at bytes (at - back)) (drop at bytes))
 
   -- they are all there
   pub repeated_few : (at : ℕ) → 4 * repeated bytes at ≤ length bytes - at

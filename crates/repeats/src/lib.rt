@@ -2,8 +2,8 @@
 // at a time.
 #![tactic(auto)]
 
-ghost use Rattle.std.specs.Prelude.{◌+◌, ◌≤◌, length, ◌≡◌};
-ghost use Rattle.repeats.specs.Repeats.{alike, Uniform, Past, Run, repeated};
+ghost use Rattle.std.specs.Prelude.{◌≤◌, length, ◌≡◌};
+ghost use Rattle.repeats.specs.Repeats.{alike, leading, rows_in, repeated};
 
 // The row before stands four bytes back.
 const BACK: usize = 4;
@@ -14,68 +14,54 @@ const ROW: usize = 4;
 const BLOCK: usize = 64;
 
 // It looks at every byte, also behind one that differs: a loop that never leaves early is compiled to few wide comparisons.
-#[tactic(auto, using(crate::proofs::Pieces::alike_on))]
-fn alike(capture: &[u8], piece: usize, at: usize, size: usize) -> bool
-    requires { (piece + size ≤ length capture.now) × (at + size ≤ length capture.now) }
-    ensures { result ≡ alike capture.now piece at size }
+fn alike<const N: usize>(piece: &[u8; N], other: &[u8; N]) -> bool
+    ensures { result ≡ alike piece.now other.now }
 {
     let mut all = true;
-    let mut i = 0;
-    while i < size {
-        all = all & (capture[piece + i] == capture[at + i]);
-        i += 1;
+    for (a, b) in piece.iter().zip(other) {
+        all &= *a == *b;
     }
     all
 }
 
-// Goes on by pieces of one size, up to a place, while each is the one that stands at `piece`, whose rows are all the same.
-#[tactic(auto, using(crate::proofs::Pieces::gone_start))]
-fn past(capture: &[u8], piece: usize, from: usize, size: usize, to: usize) -> usize
-    requires { Uniform capture.now piece size × (from ≤ to) × (to ≤ length capture.now) }
-    ensures { Past capture.now piece from size to result }
+// How many pieces, from the first on, are this one.
+fn leading<const N: usize>(piece: &[u8; N], pieces: &[[u8; N]]) -> usize
+    ensures value { result ≡ leading piece.now pieces.now }
+    ensures few { result ≤ length pieces.now }
 {
-    let mut at = from;
-    while size <= to - at {
-        if !alike(capture, piece, at, size) {
-            return at;
+    for (number, next) in pieces.iter().enumerate() {
+        if !alike(piece, next) {
+            return number;
         }
-        at += size;
     }
-    at
+    pieces.len()
 }
 
-// Where the rows from a place on end that are the one at `row`: the first block of them row by row, then blocks that are that
-// one, then rows again.
-fn run_end(capture: &[u8], row: usize, at: usize) -> usize
-    requires { (row + 4 ≤ length capture.now) × (at ≤ length capture.now) }
-    ensures { Run capture.now row at result }
+// How many rows, from the first on, are this one: those of the first block, then the blocks that are that one, then rows again.
+fn run_length(row: &[u8; ROW], bytes: &[u8]) -> usize
+    ensures { result ≡ leading row.now (rows_in bytes.now) }
 {
-    let size = capture.len();
-    let first = if size - at < BLOCK { size } else { at + BLOCK };
-    let rows = past(capture, row, at, ROW, first);
-    if rows - at < BLOCK {
+    let Some((block, behind)) = bytes.split_first_chunk::<BLOCK>() else {
+        return leading(row, bytes.as_chunks::<ROW>().0);
+    };
+    let rows = leading(row, block.as_chunks::<ROW>().0);
+    if rows < BLOCK / ROW {
         return rows;
     }
-    let blocks = past(capture, at, rows, BLOCK, size);
-    past(capture, row, blocks, ROW, size)
+    let blocks = leading(block, behind.as_chunks::<BLOCK>().0);
+    let last = leading(row, behind[blocks * BLOCK..].as_chunks::<ROW>().0);
+    rows + blocks * (BLOCK / ROW) + last
 }
 
-// How many rows from a place on equal the row before it. The first is asked for alone, since on a busy line it differs.
+// How many rows from a place on equal the row before it.
 pub fn repeated(capture: &[u8], at: usize) -> usize
     ensures { result ≡ repeated capture.now at }
 {
-    if at < BACK {
+    if at < BACK || capture.len() < at {
         return 0;
     }
-    if capture.len() < at {
+    let Some(row) = capture[at - BACK..].first_chunk::<ROW>() else {
         return 0;
-    }
-    if capture.len() - at < ROW {
-        return 0;
-    }
-    let row = at - BACK;
-    if !alike(capture, row, at, ROW) {
-        return 0;
-    }
-    (run_end(capture, row, at) - at) / ROW
+    };
+    run_length(row, &capture[at..])
 }

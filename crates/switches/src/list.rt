@@ -12,8 +12,8 @@ pub(crate) fn is_list_of(list: &[u16], rows: &[[u8; 4]]) -> bool
 {
     let mut rest = list;
     let mut before = 0;
-    for step in 0..rows.len() {
-        let sent = rows[step][SENT];
+    for (step, row) in rows.iter().enumerate() {
+        let sent = row[SENT];
         if sent != before {
             let Some((entry, behind)) = rest.split_first() else {
                 return false;

@@ -1,10 +1,11 @@
--- So far it has the answer of the bytes before.
-use Rattle.std.proofs.Common.{◌-◌, ◌≤◌, ◌≡◌}
+-- What was seen and what is left give the answer.
+use Rattle.std.proofs.Common.{◌≡◌, ◌&&◌, length}
+use Rattle.std.specs.Slice.Iter.{iter_rest}
+use Rattle.std.specs.Iterator.Adapters.{zip_first, zip_second}
 use Rattle.repeats.specs.Repeats.{alike}
 use Rattle.repeats.proofs.alike.Given as goal
 
-abbrev pub invariant-loop-i : goal.invariant-loop-i
-invariant-loop-i l = (l.all ≡ alike l.capture l.piece l.at l.i) × (l.i ≤ l.size)
-
-abbrev pub decreases-loop-i : goal.decreases-loop-i
-decreases-loop-i l = l.size - l.i
+abbrev pub invariant-loop-a : goal.invariant-loop-a
+invariant-loop-a g l =
+    (l.all && alike (iter_rest (zip_first l.a-iterator)) (iter_rest (zip_second l.a-iterator)) ≡ alike l.piece l.other)
+    × (length (iter_rest (zip_first l.a-iterator)) ≡ length (iter_rest (zip_second l.a-iterator)))
