@@ -19,11 +19,11 @@ pub loop-step-preserved : goal.loop-step-preserved
 loop-step-preserved c =
     elim c.if-sent-before.branch [
       | then-sent-before+in-Some+else-from-step w ↦
-          rw w.rest-is
+          rw (w.rest-is, w.before-is)
           (checking_more c.loop-step.invariant c.loop-step-test.true w.if-sent-before.true w.in-Some.ensures.cases.0
           (sym w.from.ensures ∙ w.if-from-step.false))
       | else-sent-before w ↦
-          rw w.rest-is (checking_same c.loop-step.invariant c.loop-step-test.true w.if-sent-before.false)
+          rw (w.rest-is, w.before-is) (checking_same c.loop-step.invariant c.loop-step-test.true w.if-sent-before.false)
     ]
 
 pub returns : goal.returns
