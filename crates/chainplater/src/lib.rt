@@ -23,7 +23,6 @@ ghost use Rattle.std.specs.Prelude.{length, get_or, ◌≡◌};
 use crate::record::{options_refusal, outcome_bytes, record_bytes, record_in, refused_bytes};
 use basics::refusal::Refusal;
 use basics::settings::{Settings, sections_fit};
-use book::Writing;
 use controller::{Controller, Made};
 use explain::Verdict;
 use pair::mark::Mark;
@@ -279,20 +278,10 @@ pub extern "C" fn chainplater_read(book: &[u8], out: &mut [u8; 769]) -> u8
     ensures value { result ≡ (reading book.now).refusal }
     ensures out_after { out.new ≡ bytes_of (reading book.now).contents }
 {
-    book::read_into(book, out)
-}
-
-fn four_bytes(v: u32) -> [u8; 4]
-    ensures { result ≡ four_bytes v }
-{
-    let high = v / 65536;
-    let low = v % 65536;
-    [
-        (high / 256) as u8,
-        (high % 256) as u8,
-        (low / 256) as u8,
-        (low % 256) as u8,
-    ]
+    match book::read_into(book, out) {
+        Ok(()) => 0,
+        Err(refusal) => refusal.number(),
+    }
 }
 
 #[unsafe(no_mangle)]
@@ -307,13 +296,13 @@ pub extern "C" fn chainplater_write(
     ensures size_after { size.new ≡ four_bytes (writing (contents_in contents.now) (length bodies.now) (length out.old)).bytes }
 {
     match book::write(contents, bodies, out) {
-        Writing::Written(k) => {
-            *size = four_bytes(k as u32);
+        Ok(written) => {
+            *size = (written as u32).to_be_bytes();
             0
         }
-        Writing::Refused(number) => {
+        Err(refusal) => {
             *size = [0, 0, 0, 0];
-            number
+            refusal.number()
         }
     }
 }
