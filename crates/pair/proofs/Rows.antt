@@ -5,12 +5,12 @@ use mathlib.Core.List.{List, [], ◌∷◌}
 use Prim.Native.Nat.{ℕ, ◌≤◌, ◌<◌}
 use native.Mathlib.Omega.{arith}
 use lib.Dec.{leb, ltb, eqb, leb-zero}
-use borrow.Author.Tests.{ltb-true, ltb-false, leb-true, eqb-true, eqb-false, ne_eqb, le-leb}
-use lib.ListN.{get_or, get_or-eq_default}
+use borrow.Author.Tests.{ltb-true, ltb-false, leb-true, eqb-true, eqb-false, eq-eqb, ne_eqb, le-leb}
+use lib.ListN.{get_or}
 use Rattle.basics.specs.Table.{every, values}
 use Rattle.basics.proofs.Table.{entry_is}
 use Rattle.pair.specs.Request.{Channels, zero_only, sections, zero_and_sections, Row, requests, among, listed, carries}
-use Rattle.pair.specs.Request.{Class, channel_0, a_section, includes, rank_in}
+use Rattle.pair.specs.Request.{Class, channel_0, a_section, class_of, includes, rank_in, rank_of}
 
 -- some row has the code and includes the class
 unfoldable pub held_in : List Row → Class → ℕ → Bool
@@ -121,12 +121,16 @@ carried_listed (r ∷ rest) n code c h = go (eqb code r.code) refl (carried_list
     go true e ih = rw e
     go false e ih = rw e (ih (rw e at h))
 
--- a table of the ranks of sixteen codes has the rank of every code, since no row of the requests has a code beyond them
-pub ranks_at : (class : Class) (code : ℕ) → get_or (values (rank_in requests class) 16) code 0 ≡ rank_in requests class code
-ranks_at class code = go (ltb code 16) refl
-  where
-    go : (t : Bool) → ltb code 16 ≡ t → get_or (values (rank_in requests class) 16) code 0 ≡ rank_in requests class code
-    go true e = entry_is (rank_in requests class) 16 code (ltb-true code 16 e)
-    go false e =
-        let beyond : 16 ≤ code = ltb-false code 16 e in
-        get_or-eq_default (values (rank_in requests class) 16) 0 beyond ∙ sym (beyond_rank 16 code beyond requests class refl)
+-- no row of the requests has a code beyond a half of a K1, and the rank of another class or code stands in its table
+pub rank_beyond : (code c : ℕ) → 16 ≤ code → rank_of code c ≡ 0
+unfolding rank_of
+rank_beyond code c beyond = beyond_rank 16 code beyond requests (class_of c) refl
+
+pub rank_at_0 : (code c : ℕ) → c ≡ 0 → code < 16 → get_or (values (rank_in requests channel_0) 16) code 0 ≡ rank_of code c
+unfolding rank_of
+rank_at_0 code c zero below = rw (eq-eqb c 0 zero) (entry_is (rank_in requests channel_0) 16 code below)
+
+pub rank_at_section : (code c : ℕ) → (c ≡ 0 → ⊥) → code < 16
+    → get_or (values (rank_in requests a_section) 16) code 0 ≡ rank_of code c
+unfolding rank_of
+rank_at_section code c some below = rw (ne_eqb c 0 some) (entry_is (rank_in requests a_section) 16 code below)

@@ -7,13 +7,17 @@ const RANKS_OF_CHANNEL_0: [u8; 16] = [0, 0, 0, 0, 0, 0, 0, 0, 0, 0, 0, 5, 0, 9, 
 
 const RANKS_OF_SECTIONS: [u8; 16] = [0, 0, 0, 0, 0, 0, 2, 0, 3, 0, 4, 5, 6, 7, 8, 0];
 
+#[tactic(auto, using(crate::proofs::Rows::rank_beyond))]
 pub fn rank(code: u8, channel: u8) -> u8
     ensures { result ≡ rank_of code channel }
 {
-    let ranks = if channel == 0 {
-        RANKS_OF_CHANNEL_0
+    if code >= 16 {
+        return 0;
+    }
+    let at = usize::from(code);
+    if channel == 0 {
+        RANKS_OF_CHANNEL_0[at]
     } else {
-        RANKS_OF_SECTIONS
-    };
-    ranks.get(usize::from(code)).copied().unwrap_or(0)
+        RANKS_OF_SECTIONS[at]
+    }
 }
