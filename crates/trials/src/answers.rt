@@ -20,12 +20,9 @@ pub(crate) const NOTHING_READ: Contents = Contents {
     }; 64],
 };
 
-// The number of the refusal, or 0.
-pub(crate) fn refusal<T>(answer: &Result<T, Refusal>) -> u8 {
-    match answer {
-        Ok(_) => 0,
-        Err(refusal) => refusal.number(),
-    }
+// The number of a refusal, or 0.
+pub(crate) fn number(refusal: Option<Refusal>) -> u8 {
+    refusal.map_or(0, Refusal::number)
 }
 
 // Refusal, count and digest of what was read.
@@ -35,8 +32,9 @@ pub(crate) struct Reading<'a>(pub(crate) &'a Result<Contents, Refusal>);
 impl fmt::Display for Reading<'_> {
     fn fmt<W: fmt::Write>(&self, f: &mut fmt::Formatter<W>) -> fmt::Result {
         let contents = self.0.as_ref().unwrap_or(&NOTHING_READ);
+        let refusal = number(self.0.err());
         let digest = of_contents(contents);
-        write!(f, "{} {} {digest}", refusal(self.0), contents.count)
+        write!(f, "{refusal} {} {digest}", contents.count)
     }
 }
 
@@ -74,8 +72,8 @@ impl Written {
         self.answer.unwrap_or(0)
     }
 
-    pub(crate) fn refusal(&self) -> u8 {
-        refusal(&self.answer)
+    pub(crate) fn refusal(&self) -> Option<Refusal> {
+        self.answer.err()
     }
 
     pub(crate) fn book(&self) -> &[u8] {
@@ -89,7 +87,7 @@ impl fmt::Display for Written {
         write!(
             f,
             "{} {} {}",
-            self.refusal(),
+            number(self.refusal()),
             self.size(),
             of_bytes(&self.out)
         )

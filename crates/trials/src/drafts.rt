@@ -1,7 +1,7 @@
 // Contents and bodies for the writer, and the example book.
 use book::{Contents, Entry};
 use std::alloc::{AllocError, Global};
-use std::fmt;
+use std::{array, fmt};
 
 // How many bytes of bodies are made, and of output are lent to the writer.
 pub(crate) const ROOM: usize = 65600;
@@ -27,7 +27,7 @@ pub(crate) const PLACE: Entry = Entry {
 };
 
 // A place past the count, which the writer does not look at: it would be refused.
-pub(crate) const UNSEEN: Entry = Entry {
+const UNSEEN: Entry = Entry {
     n: 0,
     spare: 9,
     mask: 9,
@@ -35,6 +35,17 @@ pub(crate) const UNSEEN: Entry = Entry {
     offset: 12345678,
     steps: 9,
 };
+
+// Contents of these entries.
+pub(crate) fn contents_of(listed: &[Entry]) -> Contents {
+    let count = listed.len().min(64);
+    let mut entries = [UNSEEN; 64];
+    entries[..count].copy_from_slice(&listed[..count]);
+    Contents {
+        count: count as u8,
+        entries,
+    }
+}
 
 // Byte j is 7 j + 3.
 pub(crate) fn bodies_by_rule(alloc: Global) -> Result<Vec<u8>, AllocError> {
@@ -48,42 +59,45 @@ pub(crate) fn front(bytes: &[u8], n: usize) -> &[u8] {
     &bytes[..n.min(bytes.len())]
 }
 
-#[derive(Clone, Copy, Debug, PartialEq, Eq)]
-pub(crate) enum Draft {
-    Empty,
-    Paper,
-    Still,
-    Many,
-    Quiet,
-    Largest,
-}
-
-fn paper(i: usize) -> Entry {
+// The entries of the example book.
+pub(crate) const PAPER_ENTRIES: [Entry; 2] = [
     Entry {
         n: 2,
         w: 3,
-        steps: if i == 0 { 3 } else { 2 },
+        steps: 3,
         ..PLACE
-    }
-}
+    },
+    Entry {
+        n: 2,
+        w: 3,
+        steps: 2,
+        ..PLACE
+    },
+];
 
-fn still(i: usize) -> Entry {
-    match i {
-        0 => PLACE,
-        1 => Entry {
-            n: 14,
-            mask: 16383,
-            w: 1,
-            steps: 1,
-            ..PLACE
-        },
-        _ => Entry {
-            mask: 1,
-            w: 65535,
-            ..PLACE
-        },
-    }
-}
+const STILL: [Entry; 3] = [
+    PLACE,
+    Entry {
+        n: 14,
+        mask: 16383,
+        w: 1,
+        steps: 1,
+        ..PLACE
+    },
+    Entry {
+        mask: 1,
+        w: 65535,
+        ..PLACE
+    },
+];
+
+const LARGEST: Entry = Entry {
+    n: 14,
+    mask: 10922,
+    w: 300,
+    steps: 16380,
+    ..PLACE
+};
 
 // Every n, with masks that fit it, and every other one with hold.
 fn many(i: usize) -> Entry {
@@ -111,13 +125,15 @@ fn quiet(i: usize) -> Entry {
     }
 }
 
-const LARGEST: Entry = Entry {
-    n: 14,
-    mask: 10922,
-    w: 300,
-    steps: 16380,
-    ..PLACE
-};
+#[derive(Clone, Copy, Debug, PartialEq, Eq)]
+pub(crate) enum Draft {
+    Empty,
+    Paper,
+    Still,
+    Many,
+    Quiet,
+    Largest,
+}
 
 impl Draft {
     pub(crate) const ALL: [Draft; 6] = [
@@ -129,34 +145,15 @@ impl Draft {
         Draft::Largest,
     ];
 
-    fn count(self) -> u8 {
-        match self {
-            Draft::Empty => 0,
-            Draft::Paper => 2,
-            Draft::Still => 3,
-            Draft::Many | Draft::Quiet => 64,
-            Draft::Largest => 1,
-        }
-    }
-
-    fn entry(self, i: usize) -> Entry {
-        match self {
-            Draft::Empty => UNSEEN,
-            Draft::Paper => paper(i),
-            Draft::Still => still(i),
-            Draft::Many => many(i),
-            Draft::Quiet => quiet(i),
-            Draft::Largest => LARGEST,
-        }
-    }
-
     pub(crate) fn contents(self) -> Contents {
-        let count = self.count();
-        let mut entries = [UNSEEN; 64];
-        for (i, e) in entries.iter_mut().enumerate().take(usize::from(count)) {
-            *e = self.entry(i);
+        match self {
+            Draft::Empty => contents_of(&[]),
+            Draft::Paper => contents_of(&PAPER_ENTRIES),
+            Draft::Still => contents_of(&STILL),
+            Draft::Many => contents_of(&array::from_fn::<Entry, 64, _>(many)),
+            Draft::Quiet => contents_of(&array::from_fn::<Entry, 64, _>(quiet)),
+            Draft::Largest => contents_of(&[LARGEST]),
         }
-        Contents { count, entries }
     }
 
     // As many bytes as the steps call for: the example's bodies are its own, all others by the rule.

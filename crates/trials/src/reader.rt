@@ -1,7 +1,8 @@
 // Refusals of the reader on the example book with something changed in it.
-use crate::answers::{Reading, refusal};
+use crate::answers::{Reading, number};
 use crate::drafts::PAPER;
 use Change::{Byte, Length};
+use basics::refusal::Refusal;
 use book::read;
 use std::alloc::{AllocError, Global};
 use std::io;
@@ -85,7 +86,7 @@ fn print_pairs<W: Write>(to: &mut W, alloc: Global) -> io::Result<()> {
         write!(to, "{f}")?;
         for other in &FAULTS {
             let book = changed(alloc, &[*fault, *other].concat(alloc)?)?;
-            write!(to, " {}", refusal(&read(&book)))?;
+            write!(to, " {}", number(read(&book).err()))?;
         }
         writeln!(to)?;
     }
@@ -98,14 +99,27 @@ pub(crate) fn print_faults<W: Write>(to: &mut W, alloc: Global) -> io::Result<()
 }
 
 // What a book may be answered by, in the order in which it is counted.
-const ANSWERS: [u8; 12] = [0, 20, 21, 22, 23, 24, 25, 26, 27, 28, 31, 32];
+const ANSWERS: [Option<Refusal>; 12] = [
+    None,
+    Some(Refusal::BookLength),
+    Some(Refusal::BookShort),
+    Some(Refusal::BookVersion),
+    Some(Refusal::BookCount),
+    Some(Refusal::ContentsCut),
+    Some(Refusal::Options),
+    Some(Refusal::Offset),
+    Some(Refusal::BodyCut),
+    Some(Refusal::BytesLeft),
+    Some(Refusal::EntrySections),
+    Some(Refusal::EntryMask),
+];
 
 // The refusals of the example book with each value of one byte.
-fn refusals_at(alloc: Global, place: usize) -> Result<Vec<u8>, AllocError> {
+fn refusals_at(alloc: Global, place: usize) -> Result<Vec<Option<Refusal>>, AllocError> {
     let mut refusals = Vec::new(alloc);
     for value in 0..=255 {
         let book = changed(alloc, &[Byte(place, value)])?;
-        refusals.push(refusal(&read(&book)))?;
+        refusals.push(read(&book).err())?;
     }
     Ok(refusals)
 }
@@ -125,9 +139,9 @@ pub(crate) fn print_bytes<W: Write>(to: &mut W, alloc: Global) -> io::Result<()>
 }
 
 pub(crate) fn print_lengths<W: Write>(to: &mut W) -> io::Result<()> {
-    write!(to, "reader lengths\n{}", refusal(&read(&[])))?;
+    write!(to, "reader lengths\n{}", number(read(&[]).err()))?;
     for length in 1..=PAPER.len() {
-        write!(to, " {}", refusal(&read(&PAPER[..length])))?;
+        write!(to, " {}", number(read(&PAPER[..length]).err()))?;
     }
     writeln!(to)
 }

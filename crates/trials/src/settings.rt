@@ -1,8 +1,9 @@
 // Settings of the last entry: each n from 0 to 16, with no section of high priority and with each one bit of the mask.
-use crate::answers::refusal;
+use crate::answers::number;
 use crate::reader::Change::Byte;
 use crate::reader::changed;
 use crate::writer::refusal_with;
+use basics::refusal::Refusal;
 use book::read;
 use std::alloc::{AllocError, Global};
 use std::io;
@@ -13,7 +14,7 @@ const MASKS: [u16; 17] = [
 ];
 
 // The refusal at each n and mask.
-fn print_refusals<W: Write, F: Fn(u8, u16) -> Result<u8, AllocError>>(
+fn print_refusals<W: Write, F: Fn(u8, u16) -> Result<Option<Refusal>, AllocError>>(
     to: &mut W,
     refusal_at: F,
 ) -> io::Result<()>
@@ -22,17 +23,17 @@ fn print_refusals<W: Write, F: Fn(u8, u16) -> Result<u8, AllocError>>(
     for n in 0..=16 {
         write!(to, "{n}")?;
         for mask in MASKS {
-            write!(to, " {}", refusal_at(n, mask)?)?;
+            write!(to, " {}", number(refusal_at(n, mask)?))?;
         }
         writeln!(to)?;
     }
     Ok(())
 }
 
-fn read_with(alloc: Global, n: u8, mask: u16) -> Result<u8, AllocError> {
+fn read_with(alloc: Global, n: u8, mask: u16) -> Result<Option<Refusal>, AllocError> {
     let [high, low] = mask.to_be_bytes();
     let book = changed(alloc, &[Byte(14, n), Byte(16, high), Byte(17, low)])?;
-    Ok(refusal(&read(&book)))
+    Ok(read(&book).err())
 }
 
 pub(crate) fn print_reader<W: Write>(to: &mut W, alloc: Global) -> io::Result<()> {

@@ -1,8 +1,9 @@
 // Refusals of the writer, alone and two at once.
 use crate::answers::Written;
-use crate::drafts::{PLACE, UNSEEN, front};
+use crate::drafts::{PAPER_ENTRIES, contents_of, front};
 use Change::{Bodies, Count, First, Room, Second};
 use Setting::{Mask, N, Spare, Steps};
+use basics::refusal::Refusal;
 use book::{Contents, Entry};
 use std::alloc::{AllocError, Global};
 use std::io;
@@ -79,23 +80,16 @@ struct Call {
 
 impl Call {
     // The call that writes the example book.
-    const PAPER: Call = Call {
-        count: 2,
-        first: Entry {
-            n: 2,
-            w: 3,
-            steps: 3,
-            ..PLACE
-        },
-        second: Entry {
-            n: 2,
-            w: 3,
-            steps: 2,
-            ..PLACE
-        },
-        bodies: 20,
-        room: 46,
-    };
+    fn paper() -> Call {
+        let [first, second] = PAPER_ENTRIES;
+        Call {
+            count: 2,
+            first,
+            second,
+            bodies: 20,
+            room: 46,
+        }
+    }
 
     fn changed(self, change: &Change) -> Call {
         match *change {
@@ -118,12 +112,9 @@ impl Call {
     }
 
     fn written(self, alloc: Global, bodies: &[u8]) -> Result<Written, AllocError> {
-        let mut entries = [UNSEEN; 64];
-        entries[0] = self.first;
-        entries[1] = self.second;
         let contents = Contents {
             count: self.count,
-            entries,
+            ..contents_of(&[self.first, self.second])
         };
         Written::new(alloc, &contents, front(bodies, self.bodies), self.room)
     }
@@ -135,8 +126,8 @@ pub(crate) fn refusal_with(
     n: u8,
     mask: u16,
     bodies: &[u8],
-) -> Result<u8, AllocError> {
-    let call = Call::PAPER.with(&[Second(N(n)), Second(Mask(mask))]);
+) -> Result<Option<Refusal>, AllocError> {
+    let call = Call::paper().with(&[Second(N(n)), Second(Mask(mask))]);
     Ok(call.written(alloc, bodies)?.refusal())
 }
 
@@ -144,7 +135,10 @@ pub(crate) fn print_calls<W: Write>(to: &mut W, alloc: Global, bodies: &[u8]) ->
     writeln!(to, "writer")?;
     for (f, fault) in FAULTS.iter().enumerate() {
         for (g, other) in FAULTS.iter().enumerate() {
-            let written = Call::PAPER.with(fault).with(other).written(alloc, bodies)?;
+            let written = Call::paper()
+                .with(fault)
+                .with(other)
+                .written(alloc, bodies)?;
             writeln!(to, "{f} {g} {written}")?;
         }
     }
