@@ -1,6 +1,7 @@
 // Contents in bytes by themselves, as the writer takes them: the count, then 64 places.
 use book::{Contents, Entry};
 
+// Written here too, since `book` keeps its own to itself, and its writer is what is tried.
 fn entry_bytes(e: &Entry) -> [u8; 12] {
     let [m1, m2] = e.mask.to_be_bytes();
     let [w1, w2] = e.w.to_be_bytes();
