@@ -1,6 +1,6 @@
 -- Pieces of bytes that are alike, how many are, one behind the other, and that blocks of a row are rows.
 use mathlib.Core.Path.{◌≡◌, refl, sym, ap, subst, ◌∙◌}
-use mathlib.Core.Bool.{Bool, true, false, ◌&&◌, and-eq-true_iff}
+use mathlib.Core.Bool.{Bool, true, false, ◌&&◌}
 use mathlib.Core.List.{List, [], ◌∷◌, ◌++◌}
 use mathlib.Core.Logic.{◌⊎◌, inl, inr}
 use Prim.Native.Nat.{ℕ, zero, suc, ◌+◌, ◌-◌, ◌*◌, ◌/◌, ◌%◌, ◌≤◌, ◌<◌}
@@ -11,18 +11,19 @@ use lib.Seq.{drop-cons}
 use Rattle.std.proofs.lemmas.List.{take-append-drop, drop-drop}
 use Rattle.std.proofs.lemmas.Slice.{between_to_end}
 use native.Mathlib.Numerals.{add-one}
-use borrow.Author.Tests.{eqb-true}
 use Rattle.std.specs.Prelude.{if◌then◌else◌}
+use Rattle.std.specs.Str.{bytes_eq}
+use Rattle.std.specs.Cmp.Lexicographic.{same_text}
 use Rattle.std.specs.Simd.{first_chunks}
-use Rattle.repeats.specs.Repeats.{alike, leading, rows_in}
+use Rattle.repeats.specs.Repeats.{leading, rows_in}
 
 -- two pieces compared from the front: what was seen, and what is left
-pub alike_next : (all : Bool) {whole : Bool} {xs ys xs' ys' : List ℕ} (a b : ℕ) → all && alike xs ys ≡ whole → xs ≡ a ∷ xs'
-    → ys ≡ b ∷ ys' → (all && eqb a b) && alike xs' ys' ≡ whole
+pub alike_next : (all : Bool) {whole : Bool} {xs ys xs' ys' : List ℕ} (a b : ℕ) → all && bytes_eq xs ys ≡ whole → xs ≡ a ∷ xs'
+    → ys ≡ b ∷ ys' → (all && eqb a b) && bytes_eq xs' ys' ≡ whole
 alike_next false a b e f g = e
 alike_next true a b e f g = rw (f, g) at e
 
-pub alike_end : (all : Bool) {whole : Bool} (xs ys : List ℕ) → all && alike xs ys ≡ whole → length xs ≡ length ys
+pub alike_end : (all : Bool) {whole : Bool} (xs ys : List ℕ) → all && bytes_eq xs ys ≡ whole → length xs ≡ length ys
     → (length xs ≡ 0) ⊎ (length ys ≡ 0) → all ≡ whole
 alike_end false xs ys e same none = e
 alike_end true [] [] e same none = e
@@ -30,14 +31,6 @@ alike_end true (x ∷ xs) (y ∷ ys) e same (inl none) = absurd (omega arith)
 alike_end true (x ∷ xs) (y ∷ ys) e same (inr none) = absurd (omega arith)
 alike_end true (x ∷ xs) [] e same none = absurd (omega arith)
 alike_end true [] (y ∷ ys) e same none = absurd (omega arith)
-
-pub alike_equal : (xs ys : List ℕ) → alike xs ys ≡ true → xs ≡ ys
-alike_equal [] [] e = refl
-alike_equal (x ∷ xs) (y ∷ ys) e =
-    let both = (and-eq-true_iff (eqb x y) (alike xs ys)).0 e in
-    ap (λ (k : ℕ). k ∷ xs) (eqb-true x y both.0) ∙ ap (λ (l : List ℕ). y ∷ l) (alike_equal xs ys both.1)
-alike_equal [] (y ∷ ys) e = cc
-alike_equal (x ∷ xs) [] e = cc
 
 module _ (piece : List ℕ) (pieces : List (List ℕ)) where
   -- of the pieces those before a place are alike
@@ -60,16 +53,16 @@ module _ (piece : List ℕ) (pieces : List (List ℕ)) where
       more : leading piece pieces ≡ number + leading piece (next ∷ drop (number + 1) pieces)
       more = k.led ∙ ap (λ (l : List (List ℕ)). number + leading piece l) split
 
-      pub led_next : alike piece next ≡ true → Led (number + 1)
+      pub led_next : bytes_eq piece next ≡ true → Led (number + 1)
       led_next same = record { led = let e = rw same at more in omega arith }
 
-      pub led_stops : alike piece next ≡ false → number ≡ leading piece pieces
+      pub led_stops : bytes_eq piece next ≡ false → number ≡ leading piece pieces
       led_stops other = let e = rw other at more in omega arith
 
 -- no more than there are
 pub leading_few : (piece : List ℕ) (pieces : List (List ℕ)) → leading piece pieces ≤ length pieces
 leading_few piece [] = omega arith
-leading_few piece (next ∷ rest) = go (alike piece next) (leading_few piece rest)
+leading_few piece (next ∷ rest) = go (bytes_eq piece next) (leading_few piece rest)
   where
     go : (t : Bool) → leading piece rest ≤ length rest → (if t then suc (leading piece rest) else 0) ≤ suc (length rest)
     go true few = omega arith
@@ -79,7 +72,7 @@ leading_few piece (next ∷ rest) = go (alike piece next) (leading_few piece res
 module _ (piece : List ℕ) where
   pub leading_short : (xs ys : List (List ℕ)) → leading piece xs < length xs → leading piece (xs ++ ys) ≡ leading piece xs
   leading_short [] ys few = absurd (omega arith)
-  leading_short (x ∷ xs) ys few = go (alike piece x) few (leading_short xs ys)
+  leading_short (x ∷ xs) ys few = go (bytes_eq piece x) few (leading_short xs ys)
     where
       go : (t : Bool) → (if t then suc (leading piece xs) else 0) < suc (length xs)
           → (leading piece xs < length xs → leading piece (xs ++ ys) ≡ leading piece xs)
@@ -90,7 +83,7 @@ module _ (piece : List ℕ) where
   pub leading_whole : (xs ys : List (List ℕ)) → length xs ≤ leading piece xs
       → leading piece (xs ++ ys) ≡ length xs + leading piece ys
   leading_whole [] ys all = omega arith
-  leading_whole (x ∷ xs) ys all = go (alike piece x) all (leading_whole xs ys)
+  leading_whole (x ∷ xs) ys all = go (bytes_eq piece x) all (leading_whole xs ys)
     where
       go : (t : Bool) → suc (length xs) ≤ (if t then suc (leading piece xs) else 0)
           → (length xs ≤ leading piece xs → leading piece (xs ++ ys) ≡ length xs + leading piece ys)
@@ -154,10 +147,10 @@ module _ (row block : List ℕ) (size : length block ≡ 64) where
     pub blocks_rows : (k : ℕ) (behind : List ℕ) → k * 64 ≤ length behind → Blocks behind (leading block (first_chunks 64 k behind))
     blocks_rows zero behind room = none_alike behind
     blocks_rows (suc k) behind room =
-        go (alike block (take 64 behind)) refl
+        go (bytes_eq block (take 64 behind)) refl
         (blocks_rows k (drop 64 behind) (let long : length (drop 64 behind) ≡ length behind - 64 = length-drop 64 behind in omega arith))
       where
-        go : (t : Bool) → alike block (take 64 behind) ≡ t
+        go : (t : Bool) → bytes_eq block (take 64 behind) ≡ t
             → Blocks (drop 64 behind) (leading block (first_chunks 64 k (drop 64 behind)))
             → Blocks behind (if t then suc (leading block (first_chunks 64 k (drop 64 behind))) else 0)
         go true same later =
@@ -165,7 +158,7 @@ module _ (row block : List ℕ) (size : length block ≡ 64) where
             let long : length (drop 64 behind) ≡ length behind - 64 = length-drop 64 behind in
             let within = later.within in
             let one : block ++ drop 64 behind ≡ behind =
-            ap (λ (l : List ℕ). l ++ drop 64 behind) (alike_equal block (take 64 behind) same) ∙ take-append-drop 64 behind in
+            ap (λ (l : List ℕ). l ++ drop 64 behind) (same_text block (take 64 behind) (sym same)) ∙ take-append-drop 64 behind in
             let on : 64 + n * 64 ≡ suc n * 64 = omega arith in
             let rest : drop (n * 64) (drop 64 behind) ≡ drop (suc n * 64) behind = drop-drop (n * 64) 64 behind ∙ ap (λ (m : ℕ). drop m behind) on in
             record {

@@ -1,5 +1,6 @@
 -- Rows that repeat the row before them.
-use Rattle.std.specs.Prelude.{if◌then◌else◌, Bool, true, false, ◌&&◌, List, [], ◌∷◌, ℕ, suc, ◌-◌, ◌/◌, ltb, eqb, length, drop}
+use Rattle.std.specs.Prelude.{if◌then◌else◌, Bool, ◌&&◌, List, [], ◌∷◌, ℕ, suc, ◌-◌, ◌/◌, ltb, eqb, length, drop}
+use Rattle.std.specs.Str.{bytes_eq}
 use Rattle.std.specs.Simd.{first_chunks}
 use Rattle.basics.specs.Capture.{Row, rows_of, row_at}
 
@@ -20,17 +21,10 @@ run_of r (q ∷ rows) = if same_row r q then suc (run_of r rows) else 0
 abbrev pub repeated : List ℕ → ℕ → ℕ
 repeated bytes at = if ltb at back then 0 else run_of (row_at bytes (at - back)) (rows_of (drop at bytes))
 
--- Need not be believed, from here on. The same bytes, as many and in the same order.
-abbrev pub alike : List ℕ → List ℕ → Bool
-alike [] [] = true
-alike (x ∷ xs) (y ∷ ys) = eqb x y && alike xs ys
-alike [] (y ∷ ys) = false
-alike (x ∷ xs) [] = false
-
--- how many pieces, from the first on, are this one
+-- Need not be believed, from here on. How many pieces of bytes, from the first on, are this one.
 abbrev pub leading : List ℕ → List (List ℕ) → ℕ
 leading piece [] = 0
-leading piece (next ∷ rest) = if alike piece next then suc (leading piece rest) else 0
+leading piece (next ∷ rest) = if bytes_eq piece next then suc (leading piece rest) else 0
 
 -- the rows of bytes as pieces of them
 abbrev pub rows_in : List ℕ → List (List ℕ)

@@ -3,7 +3,8 @@
 #![tactic(auto)]
 
 ghost use Rattle.std.specs.Prelude.{◌≤◌, length, ◌≡◌};
-ghost use Rattle.repeats.specs.Repeats.{alike, leading, rows_in, repeated};
+ghost use Rattle.std.specs.Str.{bytes_eq};
+ghost use Rattle.repeats.specs.Repeats.{leading, rows_in, repeated};
 
 // The row before stands four bytes back.
 const BACK: usize = 4;
@@ -15,7 +16,7 @@ const BLOCK: usize = 64;
 
 // It looks at every byte, also behind one that differs: a loop that never leaves early is compiled to few wide comparisons.
 fn alike<const N: usize>(piece: &[u8; N], other: &[u8; N]) -> bool
-    ensures { result ≡ alike piece.now other.now }
+    ensures { result ≡ bytes_eq piece.now other.now }
 {
     let mut all = true;
     for (a, b) in piece.iter().zip(other) {

@@ -18,7 +18,8 @@ use basics::refusal::Refusal;
 
 // Lists the changes of the whole capture, and answers how many they are. The first `listed` steps are listed already, in the
 // first `count` entries of the table: they are walked to check the list, and the others to list them, so that each is looked at
-// once; in a table with fewer entries than there are steps left, the others are counted before.
+// once; in a table with fewer entries than there are steps left, the others are counted before. `count` stands beside the table as
+// in `chainplater_switches`, and may be above its length.
 pub fn extend(capture: &[u8], listed: u16, count: u16, table: &mut [u16]) -> Result<u16, Refusal>
     ensures answers { Answers extending_told extending_case (extending capture.now listed count table.old) result }
     ensures table_after { table.new ≡ extended capture.now listed count table.old }

@@ -28,7 +28,8 @@ pub(crate) fn is_list_of(list: &[u16], rows: &[[u8; 4]]) -> bool
     rest.is_empty()
 }
 
-// Whether the first `count` entries of the table are that.
+// Whether the first `count` entries of the table are that. There may be fewer, so that they come as no slice (`lists` of
+// `Extend.antt`).
 pub(crate) fn lists(table: &[u16], count: usize, rows: &[[u8; 4]]) -> bool
     ensures { result ≡ lists table.now count (sent_of rows.now) }
 {
