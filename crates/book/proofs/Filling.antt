@@ -1,10 +1,10 @@
 -- The writer's loop: capture by capture, its entry behind the first two bytes and its body behind the contents.
 use mathlib.Core.Path.{◌≡◌, refl, sym, ap, ◌∙◌}
-use mathlib.Core.List.{List, [], ◌∷◌, ◌++◌, append_assoc}
+use mathlib.Core.List.{List, [], ◌∷◌, ◌++◌}
 use Prim.Native.Nat.{ℕ, ◌+◌, ◌*◌, ◌-◌, ◌≤◌}
 use native.Mathlib.Omega.{arith}
 use lib.ListN.{length, take, drop, length-drop, take-append-drop, drop_of_length-le}
-use lib.Seq.{sets, sets-eq, length-sets, drop-drop, length-take-le}
+use lib.Seq.{sets, length-sets, length-take-le}
 use Rattle.basics.proofs.Bytes.{sets_joined, sets_apart}
 use Rattle.book.specs.Format.{entry_bytes, first_body, placed_at, placed, contents_bytes, most}
 use Rattle.book.specs.Writer.{counted, steps_of, write_refusal}
@@ -12,17 +12,7 @@ use Rattle.book.specs.declared.Entry.{Entry}
 use Rattle.book.specs.declared.Contents.{Contents}
 use Rattle.book.proofs.Refusals.{writable}
 use Rattle.book.proofs.Counted.{length_counted, steps_next, steps_none}
-use Rattle.book.proofs.Laid.{length_entry, length_first}
-
--- bytes that stand in the place of as many, from a place on, are written there
-abbrev pub put : ℕ → ℕ → List ℕ → List ℕ → List ℕ
-put at few part source = take at part ++ (source ++ drop few (drop at part))
-
-put_down : (part source : List ℕ) (at few : ℕ) → few ≡ length source → at + few ≤ length part
-    → put at few part source ≡ sets part at source
-put_down part source at few is room =
-    rw (is, drop-drop (length source) at part, sets-eq source part at (omega arith))
-    (sym (append_assoc (take at part) source (drop (at + length source) part)))
+use Rattle.book.proofs.Laid.{length_entry, length_first, put, put_down}
 
 -- what entries and bodies leave of an output, the entries from one place on and the bodies from another
 abbrev filled : List ℕ → ℕ → List Entry → ℕ → List ℕ → List ℕ

@@ -6,7 +6,7 @@ use Prim.Native.Nat.{ℕ, zero, suc, ◌+◌, ◌*◌, ◌-◌, ◌≤◌, ◌<�
 use native.Mathlib.Nat.{suc-sub-suc, sub-zero, zero-sub, zero-add}
 use native.Mathlib.Omega.{arith}
 use lib.ListN.{length, get_or, take, drop, replicate, length-append, length-drop, length-replicate, replicate-append-replicate}
-use lib.Seq.{sets, sets-eq, drop_at, take-add, get_or-drop}
+use lib.Seq.{sets, sets-eq, drop_at, drop-drop, take-add, take_all, get_or-drop}
 use Rattle.basics.specs.Bytes.{four_bytes}
 use Rattle.basics.proofs.Fields.{fields_back, fields_again}
 use Rattle.book.specs.Format.{layout, fields, named, entry_in, entry_bytes, entries_in, contents_bytes, body_end, no_entry}
@@ -116,3 +116,22 @@ sets_same {A} x values room h =
     sets-eq values (replicate room x) 0 (omega (arith, length-replicate room x))
     ∙ ap (λ (l : List A). values ++ l)
     (drop_same x (0 + length values) room ∙ ap (λ (k : ℕ). replicate (room - k) x) (zero-add (length values)))
+
+-- bytes that stand in the place of as many, from a place on, are written there
+abbrev pub put : ℕ → ℕ → List ℕ → List ℕ → List ℕ
+put at few part source = take at part ++ (source ++ drop few (drop at part))
+
+pub put_down : (part source : List ℕ) (at few : ℕ) → few ≡ length source → at + few ≤ length part
+    → put at few part source ≡ sets part at source
+put_down part source at few is room =
+    rw (is, drop-drop (length source) at part, sets-eq source part at (omega arith))
+    (sym (append_assoc (take at part) source (drop (at + length source) part)))
+
+-- so is the offset, in the 12 bytes of an entry
+pub part_placed : (part : List ℕ) (at : ℕ) → ((i : ℕ) → get_or part i 0 < 256) → length part ≡ 12
+    → put 6 4 part (four_bytes at) ≡ entry_bytes (placed_at at (entry_in part))
+part_placed part at small long =
+    put_down part (four_bytes at) 6 4 refl (omega arith)
+    ∙ sym
+    (entry_placed part small (omega arith) at
+    ∙ ap (λ (l : List ℕ). sets l 6 (four_bytes at)) (take_all 12 part (omega arith)))

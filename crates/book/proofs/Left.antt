@@ -57,3 +57,7 @@ pub whole_left : (k size : ℕ) (bytes : List ℕ) → size ≡ 12 * k → 12 * 
 whole_left k size bytes is h =
     let count : length (take size bytes) / 12 ≡ k = omega (arith, length-take-le size bytes (omega arith)) in
     rw (count, is) (entries_front k bytes)
+
+-- the next entry, as the code has read it off its part
+pub next_read : {left rest : List Entry} {e f : Entry} → left ≡ e ∷ rest → f ≡ e → left ≡ f ∷ rest
+next_read next read = rw read next

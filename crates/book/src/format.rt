@@ -1,7 +1,7 @@
 // Where a book has what (01, 'Capture book').
 ghost use Rattle.std.specs.Prelude.{◌+◌, ◌*◌, ◌≡◌};
-ghost use Rattle.std.specs.Iterator.{YieldsFirst, item_count};
-ghost use Rattle.book.specs.Format.{entry_in, entry_bytes, entries_left, first_body};
+ghost use Rattle.std.specs.Iterator.{YieldsFirstBy, item_count};
+ghost use Rattle.book.specs.Format.{entry_in, entry_bytes, entries_left, first_body, placed_at};
 
 use crate::Entry;
 
@@ -24,7 +24,7 @@ pub(crate) fn body_size(e: Entry) -> usize
 }
 
 #[tactic(auto, unfolding(crate::specs::Format::entry_in, basics::specs::Bytes::two_at, basics::specs::Bytes::four_at))]
-fn entry_in(part: &[u8; ENTRY]) -> Entry
+pub(crate) fn entry_in(part: &[u8; ENTRY]) -> Entry
     ensures { result ≡ entry_in part.now }
 {
     Entry {
@@ -37,35 +37,31 @@ fn entry_in(part: &[u8; ENTRY]) -> Entry
     }
 }
 
-pub(crate) fn entry_bytes(e: Entry) -> [u8; ENTRY]
-    ensures { result ≡ entry_bytes e }
+// An entry as it was handed in, but for the offset, at which its body belongs.
+pub(crate) fn placed_at(part: &[u8; ENTRY], at: u32) -> [u8; ENTRY]
+    ensures { result ≡ entry_bytes (placed_at at (entry_in part.now)) }
 {
-    let mask = e.mask.to_be_bytes();
-    let w = e.w.to_be_bytes();
-    let offset = e.offset.to_be_bytes();
-    let steps = e.steps.to_be_bytes();
-    [
-        e.n, e.spare, mask[0], mask[1], w[0], w[1], offset[0], offset[1], offset[2], offset[3],
-        steps[0], steps[1],
-    ]
+    let mut entry = *part;
+    entry[6..10].copy_from_slice(&at.to_be_bytes());
+    entry
 }
 
-// The entries that stand in bytes, one behind the other.
+// The entries that stand in bytes, one behind the other; each comes as its own 12 bytes.
 #[derive(Drop)]
 pub(crate) struct Entries<'a> {
     pub(crate) left: &'a [u8],
 }
 
 impl<'a> Iterator for Entries<'a> {
-    type Item = Entry;
+    type Item = &'a [u8; ENTRY];
 
-    ghost next_gives = { YieldsFirst entries_left };
+    ghost next_gives = { YieldsFirstBy (λ part. entry_in part.now) entries_left };
 
     ghost remaining = { item_count entries_left };
 
-    fn next(&mut self) -> Option<Entry> {
+    fn next(&mut self) -> Option<&'a [u8; ENTRY]> {
         let (part, left) = self.left.split_first_chunk()?;
         self.left = left;
-        Some(entry_in(part))
+        Some(part)
     }
 }

@@ -13,7 +13,7 @@ ghost use Rattle.book.specs.Reader.{reading_told, reading_case, reading};
 ghost use Rattle.book.specs.Writer.{writing_told, writing_case, writing, output};
 ghost use Rattle.std.specs.Prelude.{length, take, ◌≡◌};
 
-use crate::format::{Entries, MOST, body_size, first_body};
+use crate::format::{Entries, MOST, body_size, entry_in, first_body};
 use crate::writer::put_book;
 use basics::refusal::Refusal;
 use basics::settings::Settings;
@@ -84,8 +84,8 @@ pub fn read(book: &[u8]) -> Result<Contents, Refusal>
         left: &book[2..end],
     };
     let mut entries = [Entry::default(); 64];
-    for (i, e) in listed.enumerate() {
-        entries[i] = e;
+    for (i, part) in listed.enumerate() {
+        entries[i] = entry_in(part);
     }
     Ok(Contents { count, entries })
 }

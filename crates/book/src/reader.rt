@@ -6,7 +6,7 @@ ghost use Rattle.book.specs.Format.{most};
 ghost use Rattle.book.specs.Reader.{head_faults, entry_faults, refusal};
 
 use crate::Entry;
-use crate::format::{Entries, MOST, body_size, first_body};
+use crate::format::{Entries, MOST, body_size, entry_in, first_body};
 use crate::settings::check_settings;
 use basics::refusal::Refusal;
 
@@ -55,7 +55,8 @@ fn check_entries(book: &[u8]) -> Result<(), Refusal>
     let size = book.len();
     let mut at = first_body(book[1]);
     let listed = Entries { left: &book[2..at] };
-    for e in listed {
+    for part in listed {
+        let e = entry_in(part);
         check_entry(size, at, e)?;
         at += body_size(e);
     }

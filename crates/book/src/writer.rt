@@ -8,8 +8,7 @@ ghost use Rattle.book.specs.Format.{contents_in, entries_left, first_body, place
 ghost use Rattle.book.specs.Writer.{counted, steps_of, size, entries_faults, write_refusal, writing_told, writing_case, writing};
 ghost use Rattle.std.proofs.lemmas.List.Edits.{sets};
 
-use crate::Entry;
-use crate::format::{ENTRY, Entries, MOST, body_size, entry_bytes, first_body};
+use crate::format::{ENTRY, Entries, MOST, body_size, entry_in, first_body, placed_at};
 use crate::settings::check_settings;
 use basics::refusal::Refusal;
 
@@ -28,8 +27,8 @@ fn counted(contents: &[u8; 769]) -> Entries<'_>
 fn check_entries(captures: Entries) -> Result<(), Refusal>
     ensures { refusal_told result ≡ first_of (entries_faults (entries_left captures.entry)) }
 {
-    for e in captures {
-        check_settings(e)?;
+    for part in captures {
+        check_settings(entry_in(part))?;
     }
     Ok(())
 }
@@ -39,8 +38,8 @@ fn steps_in(listed: Entries) -> usize
     ensures { (result ≡ steps_of (entries_left listed.entry)) × (result ≤ 64 * 65535) }
 {
     let mut total = 0;
-    for e in listed {
-        total += usize::from(e.steps);
+    for part in listed {
+        total += usize::from(entry_in(part).steps);
     }
     total
 }
@@ -74,14 +73,10 @@ fn put_captures(contents: &[u8; 769], bodies: &[u8], out: &mut [u8])
 {
     let mut at = first_body(contents[0]);
     let mut left = bodies;
-    for (i, e) in counted(contents).enumerate() {
+    for (i, part) in counted(contents).enumerate() {
         let place = 2 + ENTRY * i;
-        let placed = Entry {
-            offset: at as u32,
-            ..e
-        };
-        out[place..place + ENTRY].copy_from_slice(&entry_bytes(placed));
-        let (body, rest) = left.split_at(body_size(e));
+        out[place..place + ENTRY].copy_from_slice(&placed_at(part, at as u32));
+        let (body, rest) = left.split_at(body_size(entry_in(part)));
         let end = at + body.len();
         out[at..end].copy_from_slice(body);
         at = end;

@@ -3,7 +3,7 @@ use Rattle.std.proofs.Common.{rules, arith, sym, ◌≡◌, ◌-◌, ◌≤◌, 
 use Rattle.std.proofs.lemmas.Result.{err_from_is_err_and}
 use Rattle.book.specs.Format.{count_in, entries_left, entries_of}
 use Rattle.book.specs.Reader.{refusal}
-use Rattle.book.proofs.Left.{whole_left}
+use Rattle.book.proofs.Left.{next_read, whole_left}
 use Rattle.book.proofs.Entries.{length_entries, head_accepted, take_start, take_room, take_next, take_done, read_answer, refused_answer}
 use Rattle.book.proofs.read.Goals as goal
 
@@ -56,7 +56,7 @@ bounds-entries-i c =
 pub loop-i-preserved : goal.loop-i-preserved
 loop-i-preserved c =
     let s = c.in-Some.ensures.steps in
-    let taking = take_next c.loop-i.invariant.2 s.0 s.1 s.2 in
+    let taking = take_next c.loop-i.invariant.2 (next_read s.0 c.entry_in.ensures) s.1 s.2 in
     ((tt, tt, inl (omega (arith, taking.few))), tt, taking)
 
 pub returns : goal.returns

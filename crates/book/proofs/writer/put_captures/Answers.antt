@@ -1,7 +1,8 @@
 -- a turn of the loop writes an entry and a body
-use Rattle.std.proofs.Common.{arith, inl, ◌≡◌, ◌∙◌}
+use Rattle.std.proofs.Common.{ap, ◌*◌, arith, inl, ◌≡◌, ◌∙◌}
 use Rattle.book.specs.Format.{contents_in, entries_left}
 use Rattle.book.specs.Writer.{counted}
+use Rattle.book.specs.declared.Entry.{Entry}
 use Rattle.book.proofs.Refusals.{writable}
 use Rattle.book.proofs.Filling.{fill_start, fill_done, fill_inside, fill_turn}
 use Rattle.book.proofs.writer.put_captures.Goals as goal
@@ -24,17 +25,20 @@ loop-i-init c =
     ((tt, tt, inl (omega (arith, filling.few))), tt, filling)
 
 pub split_at-requires : goal.split_at-requires
-split_at-requires c = fill_inside c.loop-i.invariant.2 c.in-Some.ensures.steps.0 c.body_size.result c.body_size.ensures
+split_at-requires c =
+    let sized = c.body_size.ensures ∙ ap (λ (e : Entry). 4 * e.steps) c.entry_in.ensures in
+    fill_inside c.loop-i.invariant.2 c.in-Some.ensures.steps.0 c.body_size.result sized
 
 pub loop-i-preserved : goal.loop-i-preserved
 unfolding contents_in
 loop-i-preserved c =
     let s = c.in-Some.ensures.steps in
+    let sized = c.body_size.ensures ∙ ap (λ (e : Entry). 4 * e.steps) c.entry_in.ensures in
     let cut = c.split_at in
     let filling =
-    fill_turn c.loop-i.invariant.2 s.0 c.body_size.result c.body_size.ensures c.copy_from_slice.new.self cut.result.0.now
+    fill_turn c.loop-i.invariant.2 s.0 c.body_size.result sized c.copy_from_slice.new.self cut.result.0.now
     c.copy_from_slice-in-loop-i.new.self cut.result.1.now c.in-Some.i c.next.new.self.count
-    (c.copy_from_slice.ensures.after ∙ c.entry_bytes.ensures) cut.ensures.front
+    (c.copy_from_slice.ensures.after ∙ c.placed_at.ensures) cut.ensures.front
     c.copy_from_slice-in-loop-i.ensures.after cut.ensures.back s.1 s.2 in
     ((tt, tt, inl (omega (arith, filling.few))), tt, filling)
 

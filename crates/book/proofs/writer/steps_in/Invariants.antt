@@ -3,8 +3,8 @@ use Rattle.book.specs.Format.{entries_left}
 use Rattle.book.specs.Writer.{steps_of}
 use Rattle.book.proofs.writer.steps_in.Given as goal
 
-abbrev pub invariant-loop-e : goal.invariant-loop-e
-invariant-loop-e l = record {
-  bound : l.total + 65535 * length (entries_left l.e-iterator) ≤ 64 * 65535;
-  sum : l.total + steps_of (entries_left l.e-iterator) ≡ steps_of (entries_left l.listed);
+abbrev pub invariant-loop-part : goal.invariant-loop-part
+invariant-loop-part l = record {
+  bound : l.total + 65535 * length (entries_left l.part-iterator) ≤ 64 * 65535;
+  sum : l.total + steps_of (entries_left l.part-iterator) ≡ steps_of (entries_left l.listed);
 }

@@ -10,7 +10,7 @@ returns-in_err-part-clause-steps c =
 pub returns-clause-steps : goal.returns-clause-steps
 returns-clause-steps c =
     let told = c.in_ok-part.ensures.cases in
-    rw (c.entry_in.ensures, told.0, told.1) (next_left c.args.self.now.left.now (omega (arith, told.2)))
+    rw (told.0, told.1) (next_left c.args.self.now.left.now (omega (arith, told.2)))
 
 pub returns-clause-goes : goal.returns-clause-goes
 returns-clause-goes c =
