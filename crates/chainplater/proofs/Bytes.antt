@@ -20,7 +20,7 @@ use Rattle.controller.specs.Settings.{making}
 use Rattle.controller.specs.Refusals.{refusal}
 use Rattle.controller.specs.Step.{refused_step, moved, step}
 use Rattle.controller.specs.declared.Controller.{Controller}
-use Rattle.controller.specs.declared.Outcome.{Outcome}
+use Rattle.controller.specs.Step.{Stepped}
 use Rattle.controller.proofs.Keeping.{step_refused, step_keeps}
 use Rattle.explain.specs.Hold.{recast}
 use Rattle.explain.specs.Verdict.{Judging, refused_by, judge_faults, Right}
@@ -54,7 +54,7 @@ pub record_size : (s : Controller) → length (record_bytes s) ≡ 12
 unfolding record_bytes
 record_size s = refl
 
-pub outcome_size : (o : Outcome) → length (outcome_bytes o) ≡ 19
+pub outcome_size : (o : Stepped) → length (outcome_bytes o) ≡ 19
 unfolding record_bytes outcome_bytes
 outcome_size o = refl
 
@@ -120,7 +120,7 @@ module _ (bytes : List ℕ) (long : length bytes ≡ 12) (small : (i : ℕ) → 
       go false e refused = rw e refl
 
 -- the bytes of an answer, from those that were given
-module _ (bytes : List ℕ) (o : Outcome) (of : StepOf bytes o) (small : (i : ℕ) → get_or bytes i 0 < 256) where
+module _ (bytes : List ℕ) (o : Stepped) (of : StepOf bytes o) (small : (i : ℕ) → get_or bytes i 0 < 256) where
   pub refused_given : (o.refusal ≡ 0 → ⊥) → refused_bytes o.refusal bytes ≡ outcome_bytes o
   unfolding outcome_bytes
   refused_given some =
@@ -150,7 +150,7 @@ step_of bytes long fits k1 k2 conditions command c = go (eqb (refusal (record_in
     s : Controller
     s = record_in bytes
 
-    o : Outcome
+    o : Stepped
     o = step s k1 k2 conditions command c
 
     go : (t : Bool) → eqb (refusal s conditions command c) 0 ≡ t → StepOf bytes (step (record_in bytes) k1 k2 conditions command c)
@@ -168,7 +168,7 @@ step_of bytes long fits k1 k2 conditions command c = go (eqb (refusal (record_in
         }
     go false e =
         let back = step_refused s k1 k2 conditions command c (eqb-false (refusal s conditions command c) 0 e) in
-        let same = ap (λ (x : Outcome). x.controller) back in
+        let same = ap (λ (x : Stepped). x.controller) back in
         record {
           long = long;
           fits = fits;
@@ -176,7 +176,7 @@ step_of bytes long fits k1 k2 conditions command c = go (eqb (refusal (record_in
           setting = ap (λ (x : Controller). x.hold) same;
           priorities = ap (λ (x : Controller). x.mask) same;
           wait = ap (λ (x : Controller). x.w) same;
-          refused = λ some. back ∙ ap (λ (k : ℕ). refused_step k s) (sym (ap (λ (x : Outcome). x.refusal) back));
+          refused = λ some. back ∙ ap (λ (k : ℕ). refused_step k s) (sym (ap (λ (x : Stepped). x.refusal) back));
         }
 
 -- by the options

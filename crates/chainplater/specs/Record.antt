@@ -6,7 +6,7 @@ use Rattle.basics.specs.Settings.{options_fit, hold_of}
 use Rattle.controller.specs.Settings.{settings_faults, Making, zeros, making}
 use Rattle.controller.specs.Step.{step}
 use Rattle.controller.specs.declared.Controller.{Controller}
-use Rattle.controller.specs.declared.Outcome.{Outcome}
+use Rattle.controller.specs.Step.{Stepped}
 use Rattle.chainplater.specs.Coder.{flag}
 
 -- the fields of a record, and the bytes of each: n (1), options (1), mask (2), W (2), accepted K1 (1), K2 (1), K1 last sent (1),
@@ -45,7 +45,7 @@ fresh_for n options mask w =
     else record { refusal = 25; controller = zeros }
 
 -- refusal, record, K1, K2, bridge, selector, mark, fate
-unfoldable pub outcome_bytes : Outcome → List ℕ
+unfoldable pub outcome_bytes : Stepped → List ℕ
 outcome_bytes o =
     o.refusal
     ∷ record_bytes o.controller
