@@ -96,7 +96,7 @@ pub(crate) fn carried(n: u8, code: u8, channel: u8) -> bool
     usable_in(number_for(code * 16 + channel), n)
 }
 
-// The table has no other marks.
+// In a number a mark is its last digit, 3, 4 or 0 for none: the table is one of numbers (`numbers_right`).
 fn marked_in(number: u16) -> Option<Mark>
     requires { ((value_in number).mark ≡ 3) ⊎ ((value_in number).mark ≡ 4) ⊎ ((value_in number).mark ≡ 0) }
     ensures { mark_told result ≡ (value_in number).mark }
@@ -108,6 +108,7 @@ fn marked_in(number: u16) -> Option<Mark>
     }
 }
 
+// The digits are taken out of the number here alone; a cast of a digit says what is meant better than a conversion that may fail.
 #[tactic(auto, using(crate::proofs::Looking::number_kinds, crate::proofs::Looking::value_back))]
 pub fn value_of(k1: u8) -> Value
     ensures { value_told result ≡ value_of requests k1 }

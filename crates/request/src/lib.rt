@@ -44,6 +44,7 @@ pub fn replaces(held: u8, given: u8) -> bool
     (held == 0) | (held < given)
 }
 
+// By the command's number, of which each has a fate, be it of a command or not (`fate_right`).
 pub fn fate(command: u8, replaced: bool, sent: bool) -> Fate
     ensures { fate_number result ≡ fate command replaced sent }
 {
