@@ -3,9 +3,10 @@
 use mathlib.Core.Path.{◌≡◌, refl, sym, ap, ◌∙◌}
 use mathlib.Core.List.{List, [], ◌∷◌, ◌++◌, append_assoc}
 use Prim.Native.Nat.{ℕ, zero, suc, ◌+◌, ◌*◌, ◌-◌, ◌≤◌, ◌<◌}
-use native.Mathlib.Nat.{suc-sub-suc, sub-zero, zero-sub, zero-add}
+use native.Mathlib.Nat.{zero-add}
 use native.Mathlib.Omega.{arith}
 use lib.ListN.{length, get_or, take, drop, replicate, length-append, length-drop, length-replicate, replicate-append-replicate}
+use Rattle.std.proofs.lemmas.List.{drop-replicate}
 use lib.Seq.{sets, sets-eq, drop_at, drop-drop, take-add, take_all, get_or-drop}
 use Rattle.basics.specs.Bytes.{four_bytes}
 use Rattle.basics.proofs.Fields.{fields_back, fields_again}
@@ -104,18 +105,13 @@ contents_zeros (suc m) =
     ∙ replicate-append-replicate 12 (12 * m) 0
     ∙ ap (λ (n : ℕ). replicate n 0) whole
 
-drop_same : {A : Type 0} (x : A) (n m : ℕ) → drop n (replicate m x) ≡ replicate (m - n) x
-drop_same x zero m = ap (λ (k : ℕ). replicate k x) (sym (sub-zero m))
-drop_same x (suc n) zero = ap (λ (k : ℕ). replicate k x) (sym (zero-sub (suc n)))
-drop_same x (suc n) (suc m) = drop_same x n m ∙ ap (λ (k : ℕ). replicate k x) (sym (suc-sub-suc m n))
-
 -- values that are set at the start of places that are all the same
 pub sets_same : {A : Type 0} (x : A) (values : List A) (room : ℕ) → length values ≤ room
     → sets (replicate room x) 0 values ≡ values ++ replicate (room - length values) x
 sets_same {A} x values room h =
     sets-eq values (replicate room x) 0 (omega (arith, length-replicate room x))
     ∙ ap (λ (l : List A). values ++ l)
-    (drop_same x (0 + length values) room ∙ ap (λ (k : ℕ). replicate (room - k) x) (zero-add (length values)))
+    (drop-replicate (0 + length values) room x ∙ ap (λ (k : ℕ). replicate (room - k) x) (zero-add (length values)))
 
 -- bytes that stand in the place of as many, from a place on, are written there
 abbrev pub put : ℕ → ℕ → List ℕ → List ℕ → List ℕ

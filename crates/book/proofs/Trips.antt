@@ -194,7 +194,7 @@ module _ (book : List ℕ) (e : refusal book ≡ 0) (small : (i : ℕ) → get_o
       let long : few ≤ length (drop 1 book) = simp length-drop (omega arith) in
       let behind : room - few ≡ 12 * (64 - count_in book) = omega (arith, b.few) in
       let zeros : drop few (replicate {A = ℕ} room 0) ≡ replicate (12 * (64 - count_in book)) 0 =
-      drop-replicate few room 0 ∙ ap (λ (n : ℕ). replicate n 0) behind in
+      rw (drop-replicate {X = ℕ} few room 0, behind) in
       let front : take few (drop 1 book) ≡ count_in book ∷ raw = rw (number, drop-cons book 1 0 (omega arith)) in
       (length-take-le few (drop 1 book) long, rw (front, zeros) (sym raw_read))
 

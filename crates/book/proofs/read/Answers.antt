@@ -4,7 +4,7 @@ use Rattle.std.proofs.lemmas.Result.{err_from_is_err_and}
 use Rattle.book.specs.Format.{count_in, entries_left, entries_of}
 use Rattle.book.specs.Reader.{refusal}
 use Rattle.book.proofs.Left.{next_read, whole_left}
-use Rattle.book.proofs.Entries.{length_entries, head_accepted, take_start, take_room, take_next, take_done, read_answer, refused_answer}
+use Rattle.book.proofs.Entries.{length_entries, head_accepted, take_start, take_next, take_done, read_answer, refused_answer}
 use Rattle.book.proofs.read.Goals as goal
 
 pub returns-in_err-check : goal.returns-in_err-check
@@ -40,18 +40,6 @@ loop-i-init c =
     let taking = take_start (entries_of book) _ _ (few book c.in_ok-check.ensures) whole none in
     rw (d.0, d.1.0, d.1.1.0, d.1.1.1.0, d.1.1.1.1.0, d.1.1.1.1.1)
     ((tt, tt, inl (omega (arith, taking.few))), tt, taking)
-
-pub offset_bounds-entries-i : goal.offset_bounds-entries-i
-offset_bounds-entries-i c =
-    let s = c.in-Some.ensures.steps in
-    let room = take_room c.loop-i.invariant.2 s.0 in
-    omega (arith, s.1)
-
-pub bounds-entries-i : goal.bounds-entries-i
-bounds-entries-i c =
-    let s = c.in-Some.ensures.steps in
-    let room = take_room c.loop-i.invariant.2 s.0 in
-    omega (arith, s.1)
 
 pub loop-i-preserved : goal.loop-i-preserved
 loop-i-preserved c =
