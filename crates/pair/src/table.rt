@@ -108,7 +108,7 @@ fn marked_in(number: u16) -> Option<Mark>
     }
 }
 
-// The digits are taken out of the number here alone; a cast of a digit says what is meant better than a conversion that may fail.
+// The digits are cast, since each fits: a conversion that may fail would be no plainer.
 #[tactic(auto, using(crate::proofs::Looking::number_kinds, crate::proofs::Looking::value_back))]
 pub fn value_of(k1: u8) -> Value
     ensures { value_told result ≡ value_of requests k1 }
