@@ -1,6 +1,6 @@
 use Rattle.std.proofs.Common.{arith, rules}
 use Rattle.switches.proofs.Walking.{at_start}
-use Rattle.switches.proofs.Counting.{counting_few, counting_next, counting_done}
+use Rattle.switches.proofs.Counting.{counting_few, counting_next}
 use Rattle.switches.proofs.change.count_changes.Goals as goal
 
 pub loop-step-init : goal.loop-step-init
@@ -14,6 +14,3 @@ overflow_add-number c =
 
 pub loop-step-preserved : goal.loop-step-preserved
 loop-step-preserved c = rw c.from-number.ensures (counting_next c.loop-step.invariant c.loop-step-test.true)
-
-pub returns : goal.returns
-returns c = counting_done c.loop-step.invariant c.loop-step-test.false

@@ -1,6 +1,6 @@
 use Rattle.std.proofs.Common.{rules}
 use Rattle.switches.proofs.Walking.{at_start}
-use Rattle.switches.proofs.Putting.{putting_start, putting_few, putting_room, putting_more, putting_same, putting_done}
+use Rattle.switches.proofs.Putting.{putting_start, putting_few, putting_room, putting_more, putting_same}
 use Rattle.switches.proofs.change.put_changes.Goals as goal
 use Rattle.switches.proofs.change.put_changes.Goals.{then-sent-before, else-sent-before}
 
@@ -28,6 +28,3 @@ loop-step-preserved c =
       | else-sent-before w ↦
           rw (w.table-is, w.number-is) (putting_same c.loop-step.invariant c.loop-step-test.true w.if-sent-before.false)
     ]
-
-pub returns : goal.returns
-returns c = putting_done c.loop-step.invariant c.loop-step-test.false
