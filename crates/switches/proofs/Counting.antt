@@ -42,13 +42,6 @@ module _ {rows : List (List ℕ)} {from before number step : ℕ} (k : Counting 
           let same = first_same rows step (sym (tested k.at) ∙ is) in
           omega (arith, ap length same)
 
-  pub counting_done : length rows ≤ step → length (changes (sent_of rows)) ≡ length (first_changes (sent_of rows) from) + number
-  counting_done h =
-      let within = k.at.within in
-      let many = sent_many rows in
-      let e : length (sent_of rows) ≡ step = omega arith in
-      ap (λ (m : ℕ). length (first_changes (sent_of rows) m)) e ∙ k.count
-
 -- the changes of all steps are no more than those of the first ones and one for each other
 pub few_left : (rows : List (List ℕ)) (from : ℕ) → from ≤ length rows
     → length (changes (sent_of rows)) ≤ length (first_changes (sent_of rows) from) + (length rows - from)

@@ -7,7 +7,7 @@ use lib.ListN.{length, set, drop, length-append, length-drop, drop_of_length-le}
 use lib.Seq.{sets, length-sets, drop-append-le}
 use Rattle.basics.proofs.Bytes.{sets_joined}
 use Rattle.switches.specs.Changes.{changes}
-use Rattle.switches.specs.Walk.{sent_of, first_changes, Fits, Put}
+use Rattle.switches.specs.Walk.{sent_of, first_changes, Fits}
 use Rattle.switches.proofs.Walking.{here, sent_many, At, differs, agrees, at_next, first_same, first_more, first_few, first_fewer}
 
 pub record Putting (rows : List (List ℕ)) (known : ℕ) (begun table : List ℕ) (before number step : ℕ) : Type 0 where
@@ -85,14 +85,4 @@ module _ {rows : List (List ℕ)} {known : ℕ} {begun table : List ℕ} {before
         more = p.more;
         room = p.room;
         content = p.content ∙ ap (λ (l : List ℕ). sets begun known (drop known l)) (sym is);
-      }
-
-  pub putting_done : length rows ≤ step → Put rows known number begun table
-  putting_done h =
-      let within = p.at.within in
-      let all = sent_many rows in
-      let e : step ≡ length (sent_of rows) = omega arith in
-      record {
-        count = p.count ∙ ap (λ (m : ℕ). length (first_changes (sent_of rows) m)) e;
-        content = p.content ∙ ap (λ (m : ℕ). sets begun known (drop known (first_changes (sent_of rows) m))) e;
       }
