@@ -6,10 +6,10 @@ use Prim.Native.Nat.{ℕ, suc, ◌+◌, ◌*◌, ◌≤◌, ◌<◌, zero-le}
 use native.Mathlib.Numerals.{add-one}
 use native.Mathlib.Omega.{arith}
 use lib.ListN.{length, take, drop, set, length-set, drop_of_length-le}
-use lib.Seq.{length-take-le, drop-cons, append_snoc, get_or-take, take-suc-set, drop-set-lt, drop-drop}
+use lib.Seq.{length-take-le, drop-cons, append_snoc, get_or-take, take-suc-set, take_all}
 use Rattle.basics.specs.Capture.{Row, rows_of, row_at}
 use Rattle.pair.specs.Marks.{channel_of}
-use Rattle.explain.specs.Filling.{conditions_kept, command_kept, followed, along, ended, Stored, Keeps}
+use Rattle.explain.specs.Filling.{conditions_kept, command_kept, followed, along, ended, Keeps}
 use Rattle.explain.specs.Scan.{all, first, scan_from}
 use Rattle.explain.specs.Trace.{live, next, Fit}
 use Rattle.explain.specs.declared.Records.{Records}
@@ -31,51 +31,39 @@ first_open i k d r rows e = go (live (next d r)) refl
         absurd (omega arith)
 
 -- one table, whatever is written of a step
-pub record Kept (f : Records → Row → ℕ) (begin possible : Records) (rows : List Row) (old table : List ℕ) (step : ℕ)
+pub record Kept (f : Records → Row → ℕ) (begin possible : Records) (rows : List Row) (table : List ℕ) (step : ℕ)
     : Type 0 where
-  pub room : length rows ≤ length table
-  pub long : length table ≡ length old
+  pub room : length table ≡ length rows
   pub joins : take step table ++ along f possible (drop step rows) ≡ along f begin rows
-  pub behind : drop step table ≡ drop step old
 
-kept_start : (f : Records → Row → ℕ) (begin : Records) (rows : List Row) (table : List ℕ) → length rows ≤ length table
-    → Kept f begin begin rows table table 0
-kept_start f begin rows table room = record { room = room; long = refl; joins = refl; behind = refl }
+kept_start : (f : Records → Row → ℕ) (begin : Records) (rows : List Row) (table : List ℕ) → length table ≡ length rows
+    → Kept f begin begin rows table 0
+kept_start f begin rows table room = record { room = room; joins = refl }
 
-module _ {f : Records → Row → ℕ} {begin possible : Records} {rows : List Row} {old table : List ℕ} {step : ℕ}
-    (k : Kept f begin possible rows old table step) where
+module _ {f : Records → Row → ℕ} {begin possible : Records} {rows : List Row} {table : List ℕ} {step : ℕ}
+    (k : Kept f begin possible rows table step) where
   kept_next : (r : Row) → drop step rows ≡ r ∷ drop (suc step) rows → step < length rows
-      → {value : ℕ} → value ≡ f possible r → Kept f begin (next possible r) rows old (set table step value) (suc step)
+      → {value : ℕ} → value ≡ f possible r → Kept f begin (next possible r) rows (set table step value) (suc step)
   kept_next r here h {value} e =
       let room = k.room in
       let rest = along f (next possible r) (drop (suc step) rows) in
       record {
-        room = rw (length-set table step value) room;
-        long = length-set table step value ∙ k.long;
+        room = length-set table step value ∙ room;
         joins =
             ap (λ (l : List ℕ). l ++ rest) (take-suc-set table step value (omega arith))
             ∙ append_snoc (take step table) value rest
             ∙ ap (λ (v : ℕ). take step table ++ v ∷ rest) e
             ∙ ap (λ (l : List Row). take step table ++ along f possible l) (sym here)
             ∙ k.joins;
-        behind =
-            drop-set-lt (suc step) table step value (omega arith)
-            ∙ ap (λ (i : ℕ). drop i table) (sym (add-one step))
-            ∙ sym (drop-drop 1 step table)
-            ∙ ap (drop 1) k.behind
-            ∙ drop-drop 1 step old
-            ∙ ap (λ (i : ℕ). drop i old) (add-one step);
       }
 
-  kept_done : drop step rows ≡ [] → Stored step (along f begin rows) old table
-  kept_done none =
-      record {
-        written =
-            sym (append-nil (take step table))
-            ∙ ap (λ (l : List Row). take step table ++ along f possible l) (sym none)
-            ∙ k.joins;
-        behind = k.behind;
-      }
+  kept_done : drop step rows ≡ [] → length rows ≤ step → table ≡ along f begin rows
+  kept_done none past =
+      let room = k.room in
+      sym (take_all step table (omega arith))
+      ∙ sym (append-nil (take step table))
+      ∙ ap (λ (l : List Row). take step table ++ along f possible l) (sym none)
+      ∙ k.joins
 
 -- what is written of a step, as `conditions_along` and `commands_along` have it
 abbrev conditions_of : Records → Row → ℕ
@@ -93,7 +81,7 @@ rows_in_long bytes steps inside = length-take-le steps (rows_of bytes) (omega (a
 
 -- at a step: what the loop follows, and the records of the scan that it follows
 pub record Keeping (hold : Bool) (bytes : List ℕ) (steps : ℕ) (begin possible : Records)
-    (old old2 table table2 : List ℕ) (step : ℕ) : Type 0 where
+    (table table2 : List ℕ) (step : ℕ) : Type 0 where
   pub within : step ≤ steps
   pub inside : 4 * steps ≤ length bytes
   pub scan : Records
@@ -102,16 +90,15 @@ pub record Keeping (hold : Bool) (bytes : List ℕ) (steps : ℕ) (begin possibl
   pub fit : Fit scan
   pub alive : scan_from next live step scan (drop step (rows_in bytes steps)) ≡ all steps
   pub ends : ended scan (drop step (rows_in bytes steps)) ≡ ended begin (rows_in bytes steps)
-  pub conditions : Kept conditions_of begin scan (rows_in bytes steps) old table step
-  pub commands : Kept (commands_of hold) begin scan (rows_in bytes steps) old2 table2 step
+  pub conditions : Kept conditions_of begin scan (rows_in bytes steps) table step
+  pub commands : Kept (commands_of hold) begin scan (rows_in bytes steps) table2 step
 
-pub keeping_start : (hold : Bool) (bytes : List ℕ) (steps : ℕ) (begin : Records) (table table2 : List ℕ)
-    → Keeps begin bytes steps (length table) (length table2)
-    → Keeping hold bytes steps begin begin table table2 table table2 0
-keeping_start hold bytes steps begin table table2 asked =
-    let rows = rows_in bytes steps in
-    let long = rows_in_long bytes steps asked.inside in
-    let room = asked.conditions_room in
+pub keeping_start : (hold : Bool) (bytes : List ℕ) (begin : Records) (table table2 : List ℕ)
+    → Keeps begin bytes (length table) (length table2)
+    → Keeping hold bytes (length table) begin begin table table2 0
+keeping_start hold bytes begin table table2 asked =
+    let rows = rows_in bytes (length table) in
+    let long = rows_in_long bytes (length table) asked.inside in
     let room2 = asked.commands_room in
     record {
       within = zero-le;
@@ -122,12 +109,12 @@ keeping_start hold bytes steps begin table table2 asked =
       fit = asked.fit;
       alive = asked.alive;
       ends = refl;
-      conditions = kept_start conditions_of begin rows table (omega arith);
+      conditions = kept_start conditions_of begin rows table (sym long);
       commands = kept_start (commands_of hold) begin rows table2 (omega arith);
     }
 
-module _ {hold : Bool} {bytes : List ℕ} {steps : ℕ} {begin possible : Records} {old old2 table table2 : List ℕ} {step : ℕ}
-    (k : Keeping hold bytes steps begin possible old old2 table table2 step) where
+module _ {hold : Bool} {bytes : List ℕ} {steps : ℕ} {begin possible : Records} {table table2 : List ℕ} {step : ℕ}
+    (k : Keeping hold bytes steps begin possible table table2 step) where
   abbrev rows : List Row
   rows = rows_in bytes steps
 
@@ -145,12 +132,6 @@ module _ {hold : Bool} {bytes : List ℕ} {steps : ℕ} {begin possible : Record
   module _ (h : step < steps) where
     pub in_bytes : 4 * step + 4 ≤ length bytes
     in_bytes = let inside = k.inside in omega arith
-
-    pub in_conditions : step < length table
-    in_conditions = let room = k.conditions.room in omega (arith, long)
-
-    pub in_commands : step < length table2
-    in_commands = let room = k.commands.room in omega (arith, long)
 
     in_rows : step < length rows
     in_rows = omega (arith, long)
@@ -185,7 +166,7 @@ module _ {hold : Bool} {bytes : List ℕ} {steps : ℕ} {begin possible : Record
 
         pub keeping_next : {word word2 : ℕ} → word ≡ conditions_kept possible.controller possible.heard r.sent_k1
             → word2 ≡ command_kept hold possible.controller after.controller.k1 r.sent_k1
-            → Keeping hold bytes steps begin after old old2 (set table step word) (set table2 step word2) (step + 1)
+            → Keeping hold bytes steps begin after (set table step word) (set table2 step word2) (step + 1)
         keeping_next {word} {word2} e f =
             let e' : word ≡ conditions_of k.scan here =
             e ∙ (λ i. conditions_kept (k.same i) (k.heard i) (read i).sent_k1) in
@@ -206,9 +187,6 @@ module _ {hold : Bool} {bytes : List ℕ} {steps : ℕ} {begin possible : Record
             }
 
   module _ (h : steps ≤ step) where
-    is_end : step ≡ steps
-    is_end = let within = k.within in omega arith
-
     none_left : drop step rows ≡ []
     none_left = drop_of_length-le rows {i = step} (omega (arith, long))
 
@@ -216,8 +194,8 @@ module _ {hold : Bool} {bytes : List ℕ} {steps : ℕ} {begin possible : Record
     keeping_ended =
         k.heard ∙ ap (λ (d : Records). d.heard) (ap (ended k.scan) (sym none_left) ∙ k.ends)
 
-    pub conditions_kept_lem : Stored steps (along conditions_of begin rows) old table
-    conditions_kept_lem = rw is_end at (kept_done k.conditions none_left)
+    pub conditions_kept_lem : table ≡ along conditions_of begin rows
+    conditions_kept_lem = kept_done k.conditions none_left (omega (arith, long))
 
-    pub commands_kept : Stored steps (along (commands_of hold) begin rows) old2 table2
-    commands_kept = rw is_end at (kept_done k.commands none_left)
+    pub commands_kept : table2 ≡ along (commands_of hold) begin rows
+    commands_kept = kept_done k.commands none_left (omega (arith, long))

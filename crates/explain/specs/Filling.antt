@@ -100,13 +100,12 @@ pub record Stored (steps : ℕ) (words old new : List ℕ) : Type 0 where
   pub written : take steps new ≡ words
   pub behind : drop steps new ≡ drop steps old
 
--- what the way forward asks for: steps that are there and have room, and leave something open each
-pub record Keeps (d : Records) (bytes : List ℕ) (steps room room2 : ℕ) : Type 0 where
+-- what the way forward asks for: as many steps as either table has words, which leave something open each
+pub record Keeps (d : Records) (bytes : List ℕ) (steps room2 : ℕ) : Type 0 where
   pub inside : 4 * steps ≤ length bytes
   pub fit : Fit d
   pub alive : scan_from next live 0 d (take steps (rows_of bytes)) ≡ all steps
-  pub conditions_room : steps ≤ room
-  pub commands_room : steps ≤ room2
+  pub commands_room : room2 ≡ steps
 
 -- what is promised of both ways: the verdict of the scan; explained, the causes of all steps, else of none
 abbrev pub filled_steps : Judging → ℕ → ℕ

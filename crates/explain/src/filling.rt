@@ -68,23 +68,22 @@ impl Records {
     }
 }
 
-// Forward over as many steps; answers whether the record with the last usable pair is open at the end.
+// Forward over as many steps as the tables have; answers whether the record with the last usable pair is open at the end.
 fn keep(
     hold: bool,
     s: Controller,
     capture: &[u8],
-    steps: usize,
     conditions: &mut [u32],
     commands: &mut [u16],
 ) -> bool
-    requires { Keeps (start s) capture.now steps (length conditions.old) (length commands.old) }
-    ensures value { result ≡ (ended (start s) (take steps (rows_of capture.now))).heard }
-    ensures stored { Stored steps (conditions_along (start s) (take steps (rows_of capture.now))) conditions.old conditions.new }
-    ensures stored_2 { Stored steps (commands_along hold (start s) (take steps (rows_of capture.now))) commands.old commands.new }
+    requires { Keeps (start s) capture.now (length conditions.old) (length commands.old) }
+    ensures value { result ≡ (ended (start s) (take (length conditions.old) (rows_of capture.now))).heard }
+    ensures first_table { conditions.new ≡ conditions_along (start s) (take (length conditions.old) (rows_of capture.now)) }
+    ensures second_table { commands.new ≡ commands_along hold (start s) (take (length conditions.old) (rows_of capture.now)) }
 {
     let table = Table::new();
     let mut possible = Records::start(s);
-    for step in 0..steps {
+    for step in 0..conditions.len() {
         let before = possible;
         let row = Row::at(capture, 4 * step);
         possible = before.follow(&table, row);
@@ -113,15 +112,14 @@ fn idle_back(idle: bool, word: u32) -> bool
 }
 
 // Back from the last step, behind which the record has the idle pair accepted or not.
-fn settle(idle: bool, steps: usize, conditions: &mut [u32])
-    requires { steps ≤ length conditions.old }
-    ensures { Stored steps (settled idle (take steps conditions.old)) conditions.old conditions.new }
+fn settle(idle: bool, words: &mut [u32])
+    ensures { words.new ≡ settled idle words.old }
 {
     let mut behind = idle;
     // By index: of what is written through a reversed `iter_mut` no proof knows anything afterwards.
-    for at in (0..steps).rev() {
-        let word = conditions[at];
-        conditions[at] = settled_word(behind, word);
+    for at in (0..words.len()).rev() {
+        let word = words[at];
+        words[at] = settled_word(behind, word);
         behind = idle_back(behind, word);
     }
 }
@@ -151,7 +149,8 @@ pub(crate) fn fill(
     let steps = capture.len() / 4;
     let verdict = scan(s, capture);
     let shown = filled_steps(verdict, steps);
-    let heard = keep(hold, s, capture, shown, conditions, commands);
-    settle(!heard, shown, conditions);
+    let words = &mut conditions[..shown];
+    let heard = keep(hold, s, capture, words, &mut commands[..shown]);
+    settle(!heard, words);
     verdict
 }

@@ -1,5 +1,12 @@
-use Rattle.explain.proofs.Keeping.{loop_fit, sent_within, accepted_within, keeping_next}
+use Rattle.explain.specs.Trace.{start}
+use Rattle.explain.proofs.Keeping.{keeping_start, loop_fit, sent_within, accepted_within, keeping_next}
 use Rattle.explain.proofs.filling.keep.Goals as goal
+
+pub loop-step-init : goal.loop-step-init
+loop-step-init c =
+    let a = c.args in
+    rw c.start-possible.ensures
+    (keeping_start a.hold a.capture.now (start a.s) a.conditions.now a.commands.now c.requires)
 
 pub follow-possible-requires : goal.follow-possible-requires
 follow-possible-requires c =

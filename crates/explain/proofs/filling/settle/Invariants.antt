@@ -3,4 +3,4 @@ use Rattle.explain.proofs.Settling.{Settling}
 use Rattle.explain.proofs.filling.settle.Given as goal
 
 abbrev pub invariant-loop-at : goal.invariant-loop-at
-invariant-loop-at l = Settling l.idle l.steps l.fn.conditions l.conditions l.behind l.at
+invariant-loop-at l = Settling l.idle l.fn.words l.words l.behind l.at
