@@ -79,12 +79,11 @@ pub(crate) fn answers(far: Ranked, x: Ranked, local: bool) -> bool
 pub(crate) fn is_local(x: Request) -> bool
     ensures { result ≡ is_local x }
 {
-    let protects = (x.channel == 0) & (x.code == FAIL_HIGH);
-    (x.code != REVERSE) & !protects
+    x.code != REVERSE && (x.channel != 0 || x.code != FAIL_HIGH)
 }
 
 pub(crate) fn may_hide(x: Request) -> bool
     ensures { result ≡ may_hide x }
 {
-    (x.channel == 0) & ((x.code == FAIL_HIGH) | (x.code == LOCKOUT))
+    x.channel == 0 && matches!(x.code, FAIL_HIGH | LOCKOUT)
 }

@@ -71,6 +71,7 @@ pub fn judge_causes(
 }
 
 // The records that the bytes so far leave open: this one, if `heard`, and this one with the idle pair accepted, if `idle`.
+// `Fit` is no ghost field of it: where nothing is left open, the definition `next` makes one that does not fit.
 #[derive(Clone, Copy)]
 pub(crate) struct Records {
     pub controller: Controller,
