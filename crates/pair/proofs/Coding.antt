@@ -21,8 +21,7 @@ use Rattle.pair.specs.Marks.{usable, alarm, mark, second_usable, alarm_in}
 use Rattle.pair.specs.Table.{number_for, listed_in, usable_in}
 use Rattle.pair.specs.Coder.{decoded_told, decoded_case, decoding_told, decoding_case}
 use Rattle.pair.specs.Coder.{pair_of, decoding_of, decoding_by, decoding, decoding_looked, found_in}
-use Rattle.pair.specs.Coder.{line_of, Encoding, encoding_told, encoding_case, encodable, encoding}
-use Rattle.basics.specs.Refusal.{refusal_with}
+use Rattle.pair.specs.Coder.{line_of, encoding_told, encoding_case, encodable, encoding}
 use Rattle.basics.specs.declared.refusal.Refusal.{Refusal}
 use Rattle.basics.specs.declared.refusal.Refusal.TheVariants as refusal
 use Rattle.pair.specs.declared.Pair.{Pair}
@@ -98,14 +97,6 @@ encoding_whole n p = go (sections_fit n) (encodable n p) refl refl
 pub encoded_by : (n : ℕ) (p : Pair) {r : Result (List ℕ) Refusal} → r ≡ encoding_case (encoding n p)
     → Answers encoding_told encoding_case (encoding n p) r
 encoded_by n p e = answers (encoding_whole n p) e
-
--- bytes that are answered are those of the numbers
-pub encoded_bytes_are : (e : Encoding) (bytes : List ℕ) → Ok bytes ≡ encoding_case e → bytes ≡ e.k1 ∷ e.k2 ∷ []
-encoded_bytes_are e bytes same = go (eqb e.refusal 0) refl
-  where
-    go : (t : Bool) → eqb e.refusal 0 ≡ t → bytes ≡ e.k1 ∷ e.k2 ∷ []
-    go true none = let given : Ok bytes ≡ Ok (e.k1 ∷ e.k2 ∷ []) = rw none at same in cc
-    go false some = let given : Ok bytes ≡ Err (refusal_with e.refusal) = rw some at same in cc
 
 pub line_below : (remote : Bool) → line_of remote < 8
 line_below true = lit< tt

@@ -2,18 +2,11 @@
 use mathlib.Core.Path.{◌≡◌, refl, sym, ap, ◌∙◌}
 use native.Mathlib.Omega.{arith}
 use Rattle.std.specs.Prelude.{Option, Some, None}
-use Rattle.pair.specs.Marks.{mark_number, mark_with, mark_told, mark_case}
+use Rattle.pair.specs.Marks.{mark_number, mark_told, mark_case}
 use Rattle.pair.specs.Table.{Value, value_told}
 use Rattle.pair.specs.declared.Value as value
 use Rattle.pair.specs.declared.mark.Mark.{Mark}
 use Rattle.pair.specs.declared.mark.Mark.TheVariants as fault
-
-pub mark_back : (m : Mark) → mark_with (mark_number m) ≡ m
-mark_back fault.Architecture = refl
-mark_back fault.LineBits = refl
-mark_back fault.Code = refl
-mark_back fault.Channel = refl
-mark_back fault.Bridged = refl
 
 pub mark_some : (m : Mark) → mark_number m ≡ 0 → ⊥
 mark_some fault.Architecture e = omega arith
