@@ -1,63 +1,17 @@
 -- Pieces of bytes that are alike, how many are, one behind the other, and that blocks of a row are rows.
 use mathlib.Core.Path.{◌≡◌, refl, sym, ap, subst, ◌∙◌}
-use mathlib.Core.Bool.{Bool, true, false, ◌&&◌}
+use mathlib.Core.Bool.{Bool, true, false}
 use mathlib.Core.List.{List, [], ◌∷◌, ◌++◌}
-use mathlib.Core.Logic.{◌⊎◌, inl, inr}
 use Prim.Native.Nat.{ℕ, zero, suc, ◌+◌, ◌-◌, ◌*◌, ◌/◌, ◌%◌, ◌≤◌, ◌<◌}
 use native.Mathlib.Omega.{arith}
-use lib.Dec.{eqb}
-use lib.ListN.{length, get_or, take, drop, length-append, length-drop, drop_of_length-le}
-use lib.Seq.{drop-cons}
+use lib.ListN.{length, take, drop, length-append, length-drop}
 use Rattle.std.proofs.lemmas.List.{take-append-drop, drop-drop}
 use Rattle.std.proofs.lemmas.Slice.{between_to_end}
-use native.Mathlib.Numerals.{add-one}
 use Rattle.std.specs.Prelude.{if◌then◌else◌}
 use Rattle.std.specs.Str.{bytes_eq}
 use Rattle.std.specs.Cmp.Lexicographic.{same_text}
 use Rattle.std.specs.Simd.{first_chunks}
 use Rattle.repeats.specs.Repeats.{leading, rows_in}
-
--- two pieces compared from the front: what was seen, and what is left
-pub alike_next : (all : Bool) {whole : Bool} {xs ys xs' ys' : List ℕ} (a b : ℕ) → all && bytes_eq xs ys ≡ whole → xs ≡ a ∷ xs'
-    → ys ≡ b ∷ ys' → (all && eqb a b) && bytes_eq xs' ys' ≡ whole
-alike_next false a b e f g = e
-alike_next true a b e f g = rw (f, g) at e
-
-pub alike_end : (all : Bool) {whole : Bool} (xs ys : List ℕ) → all && bytes_eq xs ys ≡ whole → length xs ≡ length ys
-    → (length xs ≡ 0) ⊎ (length ys ≡ 0) → all ≡ whole
-alike_end false xs ys e same none = e
-alike_end true [] [] e same none = e
-alike_end true (x ∷ xs) (y ∷ ys) e same (inl none) = absurd (omega arith)
-alike_end true (x ∷ xs) (y ∷ ys) e same (inr none) = absurd (omega arith)
-alike_end true (x ∷ xs) [] e same none = absurd (omega arith)
-alike_end true [] (y ∷ ys) e same none = absurd (omega arith)
-
-module _ (piece : List ℕ) (pieces : List (List ℕ)) where
-  -- of the pieces those before a place are alike
-  pub record Led (number : ℕ) : Type 0 where
-    pub led : leading piece pieces ≡ number + leading piece (drop number pieces)
-
-  pub led_start : Led 0
-  led_start = record { led = omega arith }
-
-  module _ {number : ℕ} (k : Led number) where
-    pub led_all : length pieces ≤ number → number ≤ length pieces → length pieces ≡ leading piece pieces
-    led_all none within =
-        let e = k.led ∙ ap (λ (l : List (List ℕ)). number + leading piece l) (drop_of_length-le pieces {i = number} none) in
-        omega arith
-
-    module _ {next : List ℕ} (inside : number < length pieces) (is : next ≡ get_or pieces number next) where
-      split : drop number pieces ≡ next ∷ drop (number + 1) pieces
-      split = drop-cons pieces number next inside ∙ ap (λ (p : List ℕ). p ∷ drop (suc number) pieces) (sym is) ∙ rw (add-one number)
-
-      more : leading piece pieces ≡ number + leading piece (next ∷ drop (number + 1) pieces)
-      more = k.led ∙ ap (λ (l : List (List ℕ)). number + leading piece l) split
-
-      pub led_next : bytes_eq piece next ≡ true → Led (number + 1)
-      led_next same = record { led = let e = rw same at more in omega arith }
-
-      pub led_stops : bytes_eq piece next ≡ false → number ≡ leading piece pieces
-      led_stops other = let e = rw other at more in omega arith
 
 -- no more than there are
 pub leading_few : (piece : List ℕ) (pieces : List (List ℕ)) → leading piece pieces ≤ length pieces
