@@ -26,10 +26,10 @@ use Rattle.book.proofs.Trips.{made_entries, made_book}
 use Rattle.explain.specs.Cause.{arises, unseen, answers}
 use Rattle.explain.specs.Scan.{first, scan_from}
 use Rattle.explain.specs.Trace.{start, live, next, verdict_of, scanned}
-use Rattle.explain.specs.declared.Verdict.{Verdict}
 use Rattle.explain.specs.declared.Verdict.TheVariants as verdict
 use Rattle.page.specs.Digits.{decimal}
-use Rattle.report.specs.Table.{header, line_text, lines_text, IsVerdict, AreVerdicts, IsTable}
+use Rattle.std.proofs.Common.{Ok}
+use Rattle.report.specs.Table.{Answered, header, line_text, lines_text, IsVerdict, AreVerdicts, IsTable}
 use Rattle.report.proofs.Verdicts.{scanned_judged}
 
 -- k idle steps, and one in which no controller sends the pair: its bit 5 is 0
@@ -58,9 +58,9 @@ abbrev bodies : List ℕ → List ℕ
 bodies [] = []
 bodies (k ∷ ks) = body k ++ bodies ks
 
-abbrev firsts : List ℕ → List Verdict
+abbrev firsts : List ℕ → List Answered
 firsts [] = []
-firsts (k ∷ ks) = verdict.Unexplained k ∷ firsts ks
+firsts (k ∷ ks) = Ok (verdict.Unexplained k) ∷ firsts ks
 
 length_bodies : (ks : List ℕ) → length (bodies ks) ≡ 4 * steps_of (entries ks)
 unfolding steps_of
@@ -81,10 +81,10 @@ module _ (book : List ℕ) where
       ∙ take_at (body k) (bodies ks) (4 * (k + 1)) (length_body k)
 
   body_judged : (k at : ℕ) → body_of book (placed_at at (entry k)) ≡ body k → k ≤ 1000
-      → IsVerdict book (placed_at at (entry k)) (verdict.Unexplained k)
+      → IsVerdict book (placed_at at (entry k)) (Ok (verdict.Unexplained k))
   body_judged k at here small =
       let long = ap length here ∙ length_body k in
-      scanned_judged book (placed_at at (entry k)) (verdict.Unexplained k) refl refl
+      scanned_judged book (placed_at at (entry k)) (Ok (verdict.Unexplained k)) refl refl
       (fit_size (length (body_of book (placed_at at (entry k)))) (omega arith) (omega arith))
       (ap (scanned (fresh 14 false 0 0)) here ∙ ap verdict_of (scan_body k 0 ∙ ap first (zero-add k)))
 

@@ -21,16 +21,16 @@ use Rattle.book.specs.declared.Entry.{Entry}
 use Rattle.book.proofs.Refusals.{fit_each}
 use Rattle.book.proofs.Trips.{read_fit, read_whole}
 use Rattle.explain.specs.Verdict.{Judging, told, judge_faults, Found, Right}
-use Rattle.explain.specs.declared.Verdict.{Verdict}
 use Rattle.explain.specs.declared.Verdict.TheVariants as verdict
 use Rattle.explain.proofs.Exact.{found, first_within}
-use Rattle.report.specs.Table.{IsVerdict}
+use Rattle.std.proofs.Common.{Ok, Err}
+use Rattle.report.specs.Table.{Answered, IsVerdict}
 
 -- all steps are explained, or one of them is the first that is not
-abbrev pub Within : ℕ → Verdict → Type 0
-Within steps (verdict.Explained k) = k ≡ steps
-Within steps (verdict.Unexplained i) = i < steps
-Within steps (verdict.Refused k) = ⊥
+abbrev pub Within : ℕ → Answered → Type 0
+Within steps (Ok (verdict.Explained k)) = k ≡ steps
+Within steps (Ok (verdict.Unexplained i)) = i < steps
+Within steps (Err k) = ⊥
 
 module _ (book : List ℕ) where
   module _ (e : Entry) (fits : settings_fit e ≡ true) (long : length (body_of book e) ≡ 4 * e.steps)
@@ -50,7 +50,7 @@ module _ (book : List ℕ) where
     rows_all : length (rows_of (body_of book e)) ≡ e.steps
     rows_all = let rows = rows_long (body_of book e) in omega arith
 
-    pub judged_within : (v : Verdict) → IsVerdict book e v → Within e.steps v
+    pub judged_within : (v : Answered) → IsVerdict book e v → Within e.steps v
     judged_within v right =
         go v (found e.n (hold_in e) e.mask e.w (body_of book e) (told v) right unrefused)
       where
@@ -60,14 +60,14 @@ module _ (book : List ℕ) where
         verdict_same : {j k : Judging} → j ≡ k → j.verdict ≡ k.verdict
         verdict_same same = ap (λ (j : Judging). j.verdict) same
 
-        go : (v : Verdict) → Found e.n (hold_in e) e.mask e.w (rows_of (body_of book e)) (told v) → Within e.steps v
-        go (verdict.Explained k) (inl (same, some)) = at_same same ∙ rows_all
-        go (verdict.Explained k) (inr (i, same, some, none)) = absurd (omega (arith, verdict_same same))
-        go (verdict.Unexplained k) (inl (same, some)) = absurd (omega (arith, verdict_same same))
-        go (verdict.Unexplained k) (inr (i, same, some, none)) =
+        go : (v : Answered) → Found e.n (hold_in e) e.mask e.w (rows_of (body_of book e)) (told v) → Within e.steps v
+        go (Ok (verdict.Explained k)) (inl (same, some)) = at_same same ∙ rows_all
+        go (Ok (verdict.Explained k)) (inr (i, same, some, none)) = absurd (omega (arith, verdict_same same))
+        go (Ok (verdict.Unexplained k)) (inl (same, some)) = absurd (omega (arith, verdict_same same))
+        go (Ok (verdict.Unexplained k)) (inr (i, same, some, none)) =
             omega (arith, at_same same, rows_all, first_within e.n (hold_in e) e.mask e.w (rows_of (body_of book e)) i some none)
-        go (verdict.Refused k) (inl (same, some)) = absurd (omega (arith, verdict_same same))
-        go (verdict.Refused k) (inr (i, same, some, none)) = absurd (omega (arith, verdict_same same))
+        go (Err k) (inl (same, some)) = absurd (omega (arith, verdict_same same))
+        go (Err k) (inr (i, same, some, none)) = absurd (omega (arith, verdict_same same))
 
 -- the captures of a book that was read, by their number
 module _ (book : List ℕ) (none : (reading book).refusal ≡ 0) (i : ℕ) (h : i < length (counted (reading book).contents)) where

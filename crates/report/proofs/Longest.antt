@@ -9,11 +9,11 @@ use lib.ListN.{length, length-append}
 use borrow.Author.Tests.{ltb-true, ltb-false}
 use Rattle.book.specs.Writer.{steps_of}
 use Rattle.book.specs.declared.Entry.{Entry}
-use Rattle.explain.specs.declared.Verdict.{Verdict}
 use Rattle.explain.specs.declared.Verdict.TheVariants as verdict
 use Rattle.page.specs.Digits.{decimal}
 use Rattle.page.proofs.Numbers.{decimal_below, decimal_most}
-use Rattle.report.specs.Table.{chars, header, ending, verdict_text, line_text, lines_text}
+use Rattle.std.proofs.Common.{Ok, Err}
+use Rattle.report.specs.Table.{Answered, chars, header, ending, verdict_text, line_text, lines_text}
 use Rattle.report.proofs.Captures.{Within}
 
 -- two digits are free; the third comes with 100, and each further one with at least 900 more
@@ -27,28 +27,28 @@ digits_paid v h = go (ltb v 100) (ltb v 1000) (ltb v 10000) refl refl refl
     go false false false e f g = omega (arith, ltb-false v 10000 g, decimal_below 4 v h)
 
 -- what is asked of a capture
-abbrev Fits : Entry → Verdict → Type 0
+abbrev Fits : Entry → Answered → Type 0
 Fits e v = (e.n ≤ 14) × (e.steps < 100000) × Within e.steps v
 
-abbrev pub AllFit : List Entry → List Verdict → Type 0
+abbrev pub AllFit : List Entry → List Answered → Type 0
 AllFit [] [] = Unit {0}
 AllFit (e ∷ entries) (v ∷ verdicts) = Fits e v × AllFit entries verdicts
 AllFit [] (v ∷ verdicts) = ⊥
 AllFit (e ∷ entries) [] = ⊥
 
-verdict_short : (steps : ℕ) (v : Verdict) → steps < 100000 → Within steps v
+verdict_short : (steps : ℕ) (v : Answered) → steps < 100000 → Within steps v
     → length (decimal steps) + length (verdict_text v) ≤ 17 + (steps + 800) / 900 + (steps + 799) / 900
-verdict_short steps (verdict.Explained k) small same =
+verdict_short steps (Ok (verdict.Explained k)) small same =
     let own = digits_paid steps small in
     let shown = digits_paid k (omega arith) in
     simp length-append (omega arith)
-verdict_short steps (verdict.Unexplained i) small below =
+verdict_short steps (Ok (verdict.Unexplained i)) small below =
     let own = digits_paid steps small in
     let shown = digits_paid i (omega arith) in
     simp length-append (omega arith)
-verdict_short steps (verdict.Refused k) small none = absurd none
+verdict_short steps (Err k) small none = absurd none
 
-line_short : (number : ℕ) (e : Entry) (v : Verdict) → Fits e v
+line_short : (number : ℕ) (e : Entry) (v : Answered) → Fits e v
     → length (line_text number e v)
     ≤ length (decimal number) + 22 + (e.steps + 800) / 900 + (e.steps + 799) / 900
 unfolding line_text
@@ -65,7 +65,7 @@ number_short number few = go (ltb number 10) refl
     go true e = omega (arith, ltb-true number 10 e, decimal_below 0 number (ltb-true number 10 e))
     go false e = omega (arith, ltb-false number 10 e, decimal_below 1 number (omega arith))
 
-lines_short : (number : ℕ) (entries : List Entry) (verdicts : List Verdict) → AllFit entries verdicts
+lines_short : (number : ℕ) (entries : List Entry) (verdicts : List Answered) → AllFit entries verdicts
     → number + length entries ≤ 64 →
     let k = length entries in
     let all = steps_of entries in
@@ -83,7 +83,7 @@ lines_short number [] (v ∷ verdicts) fit few = absurd fit
 lines_short number (e ∷ entries) [] fit few = absurd fit
 
 -- with 64 captures there are at most 16,191 steps
-pub captures_short : (entries : List Entry) (verdicts : List Verdict) → AllFit entries verdicts → length entries ≤ 64
+pub captures_short : (entries : List Entry) (verdicts : List Answered) → AllFit entries verdicts → length entries ≤ 64
     → 2 + 12 * length entries + 4 * steps_of entries ≤ 65536 → length (header ++ lines_text 0 entries verdicts) ≤ 1708
 captures_short entries verdicts fit few room =
     let lines = lines_short 0 entries verdicts fit (omega arith) in

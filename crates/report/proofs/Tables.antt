@@ -16,12 +16,11 @@ use Rattle.book.specs.Reader.{refusal}
 use Rattle.book.specs.declared.Entry.{Entry}
 use Rattle.book.proofs.Entries.{length_entries}
 use Rattle.book.proofs.Ordered.{order_ends, whole_bodies, book_exact}
-use Rattle.explain.specs.declared.Verdict.{Verdict}
 use Rattle.page.specs.Page.{PutsEach}
 use Rattle.page.specs.Text.{last}
 use Rattle.page.specs.declared.Page.{Page}
 use Rattle.report.specs.Put.{Room}
-use Rattle.report.specs.Table.{chars, header, ending, lines_text, AreVerdicts, IsTable, Printed}
+use Rattle.report.specs.Table.{Answered, chars, header, ending, lines_text, AreVerdicts, IsTable, Printed}
 use Rattle.report.proofs.Captures.{both_fit, judged_within}
 use Rattle.report.proofs.Longest.{AllFit, captures_short, refused_short}
 use Rattle.report.proofs.Puts.{ending_put, from_start}
@@ -44,7 +43,7 @@ module _ (book : List ℕ) where
   unfolding IsTable
   table_read text table none =
       let told = rw none at table in
-      told.2 ∙ ap (λ (vs : List Verdict). header ++ lines_text 0 (entries_of book) vs) (all_one book (entries_of book) told.0 told.1)
+      told.2 ∙ ap (λ (vs : List Answered). header ++ lines_text 0 (entries_of book) vs) (all_one book (entries_of book) told.0 told.1)
 
   pub table_refused : (text : List ℕ) → IsTable book text → (refusal book ≡ 0 → ⊥) → text ≡ ending (chars "refused ") (refusal book)
   unfolding IsTable
@@ -73,7 +72,7 @@ module _ (book : List ℕ) where
   body_short : (e : Entry) → length book ≤ most → length (body_of book e) ≤ most
   body_short e small = simp (length-take, length-drop) (omega arith)
 
-  fit_all : (entries : List Entry) (vs : List Verdict) → length book ≤ most → every settings_fit entries ≡ true
+  fit_all : (entries : List Entry) (vs : List Answered) → length book ≤ most → every settings_fit entries ≡ true
       → every whole entries ≡ true → AreVerdicts book entries vs
       → AllFit entries vs
   fit_all [] [] small fits all_whole all = tt

@@ -9,13 +9,12 @@ use lib.Seq.{drop-cons, take_at}
 use Rattle.book.specs.Format.{count_in, entries_of, places, no_entry}
 use Rattle.book.specs.declared.Contents.{Contents}
 use Rattle.book.specs.declared.Entry.{Entry}
-use Rattle.book.specs.declared.Reading.{Reading}
+use Rattle.book.specs.Reader.{Reading}
 use Rattle.book.proofs.Entries.{length_entries, accepted}
 use Rattle.book.proofs.Ordered.{book_exact}
-use Rattle.explain.specs.declared.Verdict.{Verdict}
 use Rattle.page.specs.declared.Page.{Page}
 use Rattle.report.specs.Put.{Room, Put, LineRoom, PutLine, Opened, PutTable}
-use Rattle.report.specs.Table.{header, line_text, lines_text, IsVerdict}
+use Rattle.report.specs.Table.{Answered, header, line_text, lines_text, IsVerdict}
 use Rattle.report.proofs.Puts.{room_as, put_as, behind, room_first, room_behind, from_start}
 use Rattle.report.proofs.Tables.{table_of, read_table, read_short}
 use Rattle.report.proofs.Verdicts.{verdicts, judged_some, judged_one}
@@ -24,9 +23,6 @@ use Rattle.report.proofs.Verdicts.{verdicts, judged_some, judged_one}
 module _ {page : Page} {book : List ℕ} {contents : Contents} (opened : Opened page book contents) where
   contents_are : contents ≡ record { count = count_in book; entries = places (entries_of book) }
   contents_are = opened.read ∙ ap (λ (r : Reading). r.contents) (accepted book opened.unrefused)
-
-  pub few : contents.count ≤ 64
-  few = rw contents_are ((book_exact book).0 opened.unrefused).few
 
   pub entries_are : take contents.count contents.entries ≡ entries_of book
   entries_are =
@@ -58,7 +54,7 @@ module _ (book : List ℕ) where
       abbrev entry : Entry
       entry = get_or (entries_of book) i no_entry
 
-      rest_next : (v : Verdict) → IsVerdict book entry v → line_text i entry v ++ rest (i + 1) ≡ rest i
+      rest_next : (v : Answered) → IsVerdict book entry v → line_text i entry v ++ rest (i + 1) ≡ rest i
       rest_next v right =
           sym
           (ap (λ (es : List Entry). lines_text i es (verdicts book es)) (drop-cons (entries_of book) i no_entry h)

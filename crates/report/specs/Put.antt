@@ -4,9 +4,8 @@ use Rattle.std.proofs.lemmas.List.Edits.{sets}
 use Rattle.book.specs.Reader.{refusal, reading}
 use Rattle.book.specs.declared.Contents.{Contents}
 use Rattle.book.specs.declared.Entry.{Entry}
-use Rattle.explain.specs.declared.Verdict.{Verdict}
 use Rattle.page.specs.declared.Page.{Page}
-use Rattle.report.specs.Table.{line_text, IsVerdict, Printed}
+use Rattle.report.specs.Table.{Answered, line_text, IsVerdict, Printed}
 
 -- a text has room at the place
 pub record Room (page : Page) (text : List ℕ) : Type 0 where
@@ -19,10 +18,10 @@ pub record Put (before : Page) (text : List ℕ) (after : Page) : Type 0 where
 
 -- its line has room, whichever verdict is right
 abbrev pub LineRoom : Page → List ℕ → ℕ → Entry → Type 0
-LineRoom page book number e = (v : Verdict) → IsVerdict book e v → Room page (line_text number e v)
+LineRoom page book number e = (v : Answered) → IsVerdict book e v → Room page (line_text number e v)
 
 pub record PutLine (before : Page) (book : List ℕ) (number : ℕ) (e : Entry) (after : Page) : Type 0 where
-  pub verdict : Verdict
+  pub verdict : Answered
   pub right : IsVerdict book e verdict
   pub put : Put before (line_text number e verdict) after
 

@@ -1,7 +1,9 @@
 -- The table that is printed of a book (01, 'Sequences on both sides'), as a list of characters.
-use Rattle.std.specs.Prelude.{cond, ◌≡◌, List, [], ◌∷◌, ◌++◌, ℕ, ◌+◌, eqb, length, drop}
+use Rattle.std.specs.Prelude.{cond, ◌≡◌, Result, Ok, Err, List, [], ◌∷◌, ◌++◌, ℕ, ◌+◌, eqb, length, drop}
 use Prim.Native.Char.{code}
 use Prim.Native.String.{String, [] as none, ◌∷◌ as ◌then◌}
+use Rattle.basics.specs.Refusal.{refusal_number}
+use Rattle.basics.specs.declared.refusal.Refusal.{Refusal}
 use Rattle.book.specs.Format.{entries_of, hold_in, body_of}
 use Rattle.book.specs.Reader.{refusal}
 use Rattle.book.specs.declared.Entry.{Entry}
@@ -25,18 +27,22 @@ field v = decimal v ++ chars " "
 abbrev pub ending : List ℕ → ℕ → List ℕ
 ending word v = word ++ (decimal v ++ chars "\n")
 
+-- what the judge answers
+abbrev pub Answered : Type 0
+Answered = Result Verdict Refusal
+
 -- the verdict, and steps or first step; or `refused` and the number
-abbrev pub verdict_text : Verdict → List ℕ
-verdict_text (verdict.Explained steps) = ending (chars "explained ") steps
-verdict_text (verdict.Unexplained first) = ending (chars "unexplained ") first
-verdict_text (verdict.Refused number) = ending (chars "refused ") number
+abbrev pub verdict_text : Answered → List ℕ
+verdict_text (Ok (verdict.Explained steps)) = ending (chars "explained ") steps
+verdict_text (Ok (verdict.Unexplained first)) = ending (chars "unexplained ") first
+verdict_text (Err e) = ending (chars "refused ") (refusal_number e)
 
 -- capture number, n, steps, verdict, and steps or first step
-unfoldable pub line_text : ℕ → Entry → Verdict → List ℕ
+unfoldable pub line_text : ℕ → Entry → Answered → List ℕ
 line_text number e v = field number ++ (field e.n ++ (field e.steps ++ verdict_text v))
 
 -- a line for each capture, numbered on from a number
-abbrev pub lines_text : ℕ → List Entry → List Verdict → List ℕ
+abbrev pub lines_text : ℕ → List Entry → List Answered → List ℕ
 lines_text number [] [] = []
 lines_text number (e ∷ entries) (v ∷ verdicts) = line_text number e v ++ lines_text (number + 1) entries verdicts
 lines_text number [] (v ∷ verdicts) = []
@@ -44,10 +50,10 @@ lines_text number (e ∷ entries) [] = []
 
 -- a verdict is that of a capture of the book if it is the judge's right answer, by the capture's settings, hold with them (02,
 -- g); and verdicts, one a capture, if each is
-abbrev pub IsVerdict : List ℕ → Entry → Verdict → Type 0
+abbrev pub IsVerdict : List ℕ → Entry → Answered → Type 0
 IsVerdict book e v = Right e.n (hold_in e) e.mask e.w (body_of book e) (told v)
 
-abbrev pub AreVerdicts : List ℕ → List Entry → List Verdict → Type 0
+abbrev pub AreVerdicts : List ℕ → List Entry → List Answered → Type 0
 AreVerdicts book [] [] = Unit {0}
 AreVerdicts book (e ∷ entries) (v ∷ verdicts) = IsVerdict book e v × AreVerdicts book entries verdicts
 AreVerdicts book [] (v ∷ verdicts) = ⊥
@@ -57,7 +63,7 @@ AreVerdicts book (e ∷ entries) [] = ⊥
 unfoldable pub IsTable : List ℕ → List ℕ → Type 0
 IsTable book text =
     cond (eqb (refusal book) 0)
-    ((verdicts : List Verdict)
+    ((verdicts : List Answered)
     × AreVerdicts book (entries_of book) verdicts
     × (text ≡ header ++ lines_text 0 (entries_of book) verdicts))
     (text ≡ ending (chars "refused ") (refusal book))

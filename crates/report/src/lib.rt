@@ -11,13 +11,12 @@ use book::{Contents, read};
 use page::Page;
 
 // The header, and a line for each capture of a book that was read.
-fn put_captures(page: &mut Page<'_>, book: &[u8], contents: Contents)
-    requires { Opened page.old book.now contents }
+fn put_captures(page: &mut Page<'_>, book: &[u8], contents: &Contents)
+    requires { Opened page.old book.now contents.now }
     ensures { PutTable page.old book.now page.new }
 {
     page.put(b"capture sections steps verdict at\n");
-    let count = contents.count as usize;
-    for (i, e) in contents.entries[..count].iter().enumerate() {
+    for (i, e) in contents.captures().iter().enumerate() {
         put_capture(page, book, i, *e);
     }
 }
@@ -27,11 +26,9 @@ pub fn put_table(book: &[u8], page: &mut [u8; 2048]) -> usize
     ensures { Printed book.now page.old page.new result }
 {
     let mut table = Page::new(page);
-    let answer = read(book);
-    if answer.refusal == 0 {
-        put_captures(&mut table, book, answer.contents);
-    } else {
-        table.put_last(b"refused ", u64::from(answer.refusal));
+    match read(book) {
+        Ok(contents) => put_captures(&mut table, book, &contents),
+        Err(refusal) => table.put_last(b"refused ", u64::from(refusal.number())),
     }
     table.at
 }

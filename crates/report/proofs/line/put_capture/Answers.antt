@@ -8,7 +8,7 @@ pub put_verdict-requires : goal.put_verdict-requires
 unfolding line_text
 put_verdict-requires c =
     let v = c.judge-verdict.result in
-    let right : IsVerdict c.args.book.now c.args.e v = rw (c.body.ensures, c.hold_in.ensures) at c.judge-verdict.ensures in
+    let right : IsVerdict c.args.book.now c.args.e v = rw (c.body.ensures, c.settings.ensures) at c.judge-verdict.ensures in
     let all = c.requires v right in
     let first = field_put _ refl all c.put_field.ensures in
     room_behind (room_behind all first) (field_put _ c.from.ensures (room_behind all first) c.put_field-2.ensures)
@@ -17,7 +17,7 @@ pub returns : goal.returns
 unfolding line_text
 returns c =
     let v = c.judge-verdict.result in
-    let right : IsVerdict c.args.book.now c.args.e v = rw (c.body.ensures, c.hold_in.ensures) at c.judge-verdict.ensures in
+    let right : IsVerdict c.args.book.now c.args.e v = rw (c.body.ensures, c.settings.ensures) at c.judge-verdict.ensures in
     let all = c.requires v right in
     let first = field_put _ refl all c.put_field.ensures in
     let second = field_put _ c.from.ensures (room_behind all first) c.put_field-2.ensures in
