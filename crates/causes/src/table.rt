@@ -4,8 +4,9 @@ ghost use Rattle.explain.specs.Causes.{Causes};
 ghost use Rattle.explain.specs.Verdict.{told};
 
 use crate::line::{Command, Conditions};
+use basics::refusal::Refusal;
 use basics::two_at;
-use book::{Entry, body, hold_in};
+use book::{Entry, body};
 use explain::{Verdict, judge_causes};
 use page::Page;
 use std::fmt;
@@ -15,18 +16,15 @@ use std::fmt::Write;
 const LONGEST: usize = 41;
 
 // The causes of a capture, by its own settings, hold with them (02, g).
-fn causes_of(book: &[u8], e: Entry, conditions: &mut [u32], commands: &mut [u16]) -> Verdict
+fn causes_of(
+    book: &[u8],
+    e: Entry,
+    conditions: &mut [u32],
+    commands: &mut [u16],
+) -> Result<Verdict, Refusal>
     ensures { Causes e.n (hold_in e) e.mask e.w (body_of book.now e) conditions.old commands.old (told result) conditions.new commands.new }
 {
-    judge_causes(
-        e.n,
-        hold_in(e),
-        e.mask,
-        e.w,
-        body(book, e),
-        conditions,
-        commands,
-    )
+    judge_causes(e.settings(), body(book, e), conditions, commands)
 }
 
 // Lines as '0 1 2228 A228 001 none': the number of the capture, the step, the received and the sent pair, the conditions, the
@@ -64,14 +62,21 @@ pub(crate) fn put_capture(
     commands: &mut [u16],
 ) -> fmt::Result {
     match causes_of(book, e, conditions, commands) {
-        Verdict::Explained(_) => put_steps(page, number, e.n, body(book, e), conditions, commands),
-        Verdict::Unexplained(first) => {
+        Ok(Verdict::Explained(_)) => put_steps(
+            page,
+            number,
+            e.n,
+            body(book, e),
+            conditions,
+            commands,
+        ),
+        Ok(Verdict::Unexplained(first)) => {
             page.next_line(LONGEST);
             writeln!(page, "{number} unexplained {first}")
         }
-        Verdict::Refused(refusal) => {
+        Err(refusal) => {
             page.next_line(LONGEST);
-            writeln!(page, "{number} refused {refusal}")
+            writeln!(page, "{number} {refusal}")
         }
     }
 }

@@ -11,7 +11,6 @@ use Rattle.book.specs.declared.Contents.{Contents}
 use Rattle.book.specs.declared.Entry.{Entry}
 use Rattle.book.specs.Reader.{Reading}
 use Rattle.book.proofs.Entries.{length_entries, accepted}
-use Rattle.book.proofs.Ordered.{book_exact}
 use Rattle.page.specs.declared.Page.{Page}
 use Rattle.report.specs.Put.{Room, Put, LineRoom, PutLine, Opened, PutTable}
 use Rattle.report.specs.Table.{Answered, header, line_text, lines_text, IsVerdict}

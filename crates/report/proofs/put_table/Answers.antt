@@ -21,9 +21,9 @@ pub returns : goal.returns
 returns c =
     let large : 2048 ≤ length c.new-table.result.bytes.now = search rules in
     elim c.match-read.branch [
-      in-Ok w ↦ rw w.table-is (rw c.new-table.ensures.bytes at w.put_captures.ensures.printed)
+      | in-Ok w ↦ rw w.table-is (rw c.new-table.ensures.bytes at w.put_captures.ensures.printed)
       | in-Err w ↦
-        let number = ap (λ (r : Reading). r.refusal) w.in-Err.ensures.numbers ∙ read_refusal c.args.book.now in
-        rw w.table-is
-        (rw c.new-table.ensures.bytes at (refused_printed large c.new-table.ensures.start number (number_some w.in-Err.refusal) (w.from.ensures ∙ w.number.ensures) w.put_last.ensures))
+          let number = ap (λ (r : Reading). r.refusal) w.in-Err.ensures.numbers ∙ read_refusal c.args.book.now in
+          rw w.table-is
+          (rw c.new-table.ensures.bytes at (refused_printed large c.new-table.ensures.start number (number_some w.in-Err.refusal) (w.from.ensures ∙ w.number.ensures) w.put_last.ensures))
     ]

@@ -14,17 +14,19 @@ text_of shown e f = ap verdict_text (e ∙ ap Ok f)
 pub returns-in-Ok-Explained : goal.returns-in-Ok-Explained
 returns-in-Ok-Explained c =
     let steps = field_put _ c.from.ensures c.requires c.put_field.ensures in
+    let is : c.args.verdict ≡ Ok c.in-Ok-Explained.field-0 = c.in-Ok-Explained.is in
+    let text = text_of (verdict.Explained c.in-Ok-Explained.all) is (rw is at c.in-Ok-Explained.field-0-is) in
     behind steps
-    (ending_put (chars "explained ") (text_of (verdict.Explained c.in-Ok-Explained.all) c.in-Ok-Explained.is c.in-Ok-Explained.field-0-is) c.from-in-Ok-Explained.ensures
-    (room_behind c.requires steps) c.put_last.ensures)
+    (ending_put (chars "explained ") text c.from-in-Ok-Explained.ensures (room_behind c.requires steps) c.put_last.ensures)
 
 pub returns-in-Ok-Unexplained : goal.returns-in-Ok-Unexplained
 returns-in-Ok-Unexplained c =
     let steps = field_put _ c.from.ensures c.requires c.put_field.ensures in
+    let is : c.args.verdict ≡ Ok c.in-Ok-Unexplained.field-0 = c.in-Ok-Unexplained.is in
+    let text = text_of (verdict.Unexplained c.in-Ok-Unexplained.first) is (rw is at c.in-Ok-Unexplained.field-0-is) in
     behind steps
-    (ending_put (chars "unexplained ") (text_of (verdict.Unexplained c.in-Ok-Unexplained.first) c.in-Ok-Unexplained.is c.in-Ok-Unexplained.field-0-is)
-    c.from-in-Ok-Unexplained.ensures
-    (room_behind c.requires steps) c.put_last-in-Ok-Unexplained.ensures)
+    (ending_put (chars "unexplained ") text c.from-in-Ok-Unexplained.ensures (room_behind c.requires steps)
+    c.put_last-in-Ok-Unexplained.ensures)
 
 pub returns-in-Err : goal.returns-in-Err
 returns-in-Err c =
