@@ -12,7 +12,7 @@ use Rattle.pair.specs.Table.{Value}
 use Rattle.pair.specs.Coder.{Decoding, Encoding, encoding}
 use Rattle.controller.specs.Settings.{fresh, settings_faults, making}
 use Rattle.controller.specs.declared.Controller.{Controller}
-use Rattle.controller.specs.declared.Outcome.{Outcome}
+use Rattle.controller.specs.Step.{Stepped}
 use Rattle.explain.specs.Causes.{Causes}
 use Rattle.explain.specs.Verdict.{Judging, refused_by}
 use Rattle.switches.specs.Extend.{extending}
@@ -221,7 +221,7 @@ decoded_long d = refl
 encoded_long : (e : Encoding) → length (encoded_bytes e) ≡ 2
 encoded_long e = refl
 
-stepped_long : (o : Outcome) → length (outcome_bytes o) ≡ 19
+stepped_long : (o : Stepped) → length (outcome_bytes o) ≡ 19
 stepped_long = outcome_size
 
 judged_long : (j : Judging) → length (judging_bytes j) ≡ 3

@@ -1,8 +1,8 @@
 -- Refused for the options, or what the judge answers.
-use Rattle.std.proofs.Common.{◌≡◌, Err, refl, rules, arith}
+use Rattle.std.proofs.Common.{◌≡◌, Err, arith}
 use Rattle.std.proofs.lemmas.Grind.{common_steps}
 use Rattle.basics.specs.declared.refusal.Refusal.TheVariants.{Options}
-use Rattle.explain.specs.Verdict.{refused_by, told}
+use Rattle.explain.specs.Verdict.{refused_by}
 use Rattle.chainplater.specs.Verdict.{CausesFor}
 use Rattle.chainplater.proofs.answers.caused.Goals as goal
 

@@ -1,5 +1,5 @@
 -- Refused for the options, or what the judge answers.
-use Rattle.std.proofs.Common.{◌≡◌, Err, refl, rules, arith}
+use Rattle.std.proofs.Common.{◌≡◌, Err, arith}
 use Rattle.std.proofs.lemmas.Grind.{common_steps}
 use Rattle.basics.specs.declared.refusal.Refusal.TheVariants.{Options}
 use Rattle.explain.specs.Verdict.{refused_by, told}

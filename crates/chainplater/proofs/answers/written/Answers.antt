@@ -1,5 +1,5 @@
 -- The size is that of the numbers that the writer's answer tells.
-use Rattle.std.proofs.Common.{◌≡◌, ◌<◌, ◌^◌, arith, ap, ◌∙◌, length}
+use Rattle.std.proofs.Common.{◌<◌, ◌^◌, arith, ap, ◌∙◌, length}
 use Rattle.book.specs.Format.{contents_in}
 use Rattle.book.specs.Writer.{Wrote}
 use Rattle.book.proofs.Books.{written_small}

@@ -1,5 +1,5 @@
 -- What is taken from the bytes that were given is what the answer has.
-use Rattle.std.proofs.Common.{◌≡◌, ap, sym, rules, Result, Err, List, [], ◌∷◌, ◌++◌, ℕ, ◌/◌, ◌%◌, ◌∙◌}
+use Rattle.std.proofs.Common.{◌≡◌, ap, sym, rules, Err, List, [], ◌∷◌, ◌++◌, ℕ, ◌/◌, ◌%◌, ◌∙◌}
 use Rattle.basics.proofs.Refusals.{number_some}
 use Rattle.controller.specs.Step.{Stepped, outcome_told, step_told}
 use Rattle.chainplater.specs.Record.{record_bytes, outcome_bytes, refused_bytes}
