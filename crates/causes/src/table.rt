@@ -28,7 +28,8 @@ fn causes_of(
 }
 
 // Lines as '0 1 2228 A228 001 none': the number of the capture, the step, the received and the sent pair, the conditions, the
-// command. An explained capture is explained to its last step, and each step has a word in either table.
+// command. An explained capture is explained to its last step, and each step has a word in either table; the two are lent as
+// `judge_causes` fills them.
 fn put_steps(
     page: &mut Page<'_>,
     number: usize,

@@ -15,7 +15,7 @@ const STDOUT: i32 = 1;
 // all of them more than 600,000 bytes.
 pub const BLOCK: usize = 4096;
 
-// Lent bytes, and where the next text begins.
+// Lent bytes, and where the next text begins. Any two will do: what is put behind the bytes' end is dropped.
 #[derive(Drop)]
 pub struct Page<'a> {
     pub bytes: &'a mut [u8],
@@ -62,6 +62,8 @@ impl<'a> Page<'a> {
         }
     }
 
+    // The digits stand whole or not at all (`put_number_unique`). Of a text that is printed by `write!` the library promises its
+    // pieces alone, so the digits of this and of the next function are made by hand.
     pub fn put_number(&mut self, v: u64)
         ensures { Puts self.old (decimal v) self.new }
     {

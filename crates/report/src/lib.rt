@@ -21,7 +21,8 @@ fn put_captures(page: &mut Page<'_>, book: &[u8], contents: &Contents)
     }
 }
 
-// Every table has room: the longest has 1,708 characters (`table_longest`).
+// Every table has room: the longest has 1,708 characters (`table_longest`). C lends the page and takes the length, so these are
+// no struct here.
 pub fn put_table(book: &[u8], page: &mut [u8; 2048]) -> usize
     ensures { Printed book.now page.old page.new result }
 {
