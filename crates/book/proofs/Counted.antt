@@ -10,7 +10,6 @@ use Rattle.basics.proofs.First.{first_behind, first_before}
 use Rattle.book.specs.Format.{entry_in, entries_in, contents_in, settings_faults}
 use Rattle.book.specs.Writer.{first_places, counted, steps_of, entries_faults}
 use Rattle.book.specs.declared.Entry.{Entry}
-use Rattle.book.proofs.Entries.{length_entries}
 
 pub length_counted : (k : ℕ) (entries : List Entry) → length (first_places k entries) ≡ k
 unfolding first_places
@@ -31,9 +30,6 @@ module _ (bytes : List ℕ) where
   pub counted_handed : (contents_in bytes).count ≤ 64 → counted (contents_in bytes) ≡ handed bytes
   unfolding contents_in
   counted_handed few = first_listed (get_or bytes 0 0) 64 (drop 1 bytes) few
-
-  pub length_handed : length (handed bytes) ≡ get_or bytes 0 0
-  length_handed = length_entries (get_or bytes 0 0) (drop 1 bytes)
 
 -- the settings: of the next entry, and of those behind it
 module _ {entries rest : List Entry} {e : Entry} (next : entries ≡ e ∷ rest) where

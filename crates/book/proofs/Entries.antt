@@ -46,9 +46,6 @@ pub take_start : (all left : List Entry) (i : ℕ) → length all ≤ 64 → lef
 take_start all left i few whole none = rw (whole, none) (record { few = omega arith; taken = refl })
 
 module _ {all kept left : List Entry} {i : ℕ} (taking : Taking all kept left i) where
-  pub take_room : {e : Entry} {rest : List Entry} → left ≡ e ∷ rest → i < 64
-  take_room next = omega (arith, taking.few, ap length next)
-
   pub take_next : {e : Entry} {rest : List Entry} {at j : ℕ} → left ≡ e ∷ rest → at ≡ i → j ≡ i + 1
       → Taking all (set kept at e) rest j
   take_next {e} {rest} next here on =

@@ -68,9 +68,6 @@ module _ {contents : Contents} {bodies before out : List ℕ} {at : ℕ} {unput 
     pub fill_room : at + size ≤ length out
     fill_room = omega (arith, fill_inside, filling.ends, filling.roomy, filling.same)
 
-    pub fill_small : at + size ≤ most
-    fill_small = omega (arith, fill_inside, filling.ends, filling.small)
-
     pub fill_place : 2 + 12 * i + 12 ≤ length out
     fill_place = omega (arith, ap length next, filling.few, filling.roomy, filling.same)
 
