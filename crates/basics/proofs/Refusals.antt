@@ -87,3 +87,18 @@ settings_told first second n mask = cases (not (sections_fit n)) (not (mask_fits
     cases true u = refl
     cases false true = refl
     cases false false = refl
+
+-- nothing is refused exactly if both fit
+module _ {E : Type 0} (first second : E) (n mask : ℕ) where
+  pub error_none : first_error (settings_checks first second n mask) ≡ Ok tt
+      → (sections_fit n ≡ true) × (mask_fits n mask ≡ true)
+  error_none e = cases (sections_fit n) (mask_fits n mask) e
+    where
+      cases : (t u : Bool) → first_error ((first when not t) ∷ (second when not u) ∷ []) ≡ Ok tt → (t ≡ true) × (u ≡ true)
+      cases true true e = (refl, refl)
+      cases true false e = absurd cc
+      cases false u e = absurd cc
+
+  pub none_error : sections_fit n ≡ true → mask_fits n mask ≡ true
+      → first_error (settings_checks first second n mask) ≡ Ok tt
+  none_error fits small = rw (fits, small)

@@ -7,7 +7,7 @@ use Prim.Native.Nat.{ℕ, ◌+◌, ◌%◌, ◌≤◌, ◌<◌}
 use lib.ListN.{length, get_or, take, drop}
 use lib.Seq.{sets}
 use Rattle.basics.specs.Capture.{most, size_faults}
-use Rattle.basics.specs.First.{CheckFor, Check, first_or, applies_at, answer_or, FirstAt, first_of}
+use Rattle.basics.specs.First.{CheckFor, Check, first_or, first_error, applies_at, answer_or, FirstAt, first_of}
 use Rattle.basics.specs.Answer.{Answers}
 use Rattle.basics.specs.Bytes.{two_at, four_at, two_bytes, four_bytes}
 use Rattle.basics.specs.Fields.{Width, size_of, fields_at, field_bytes}
@@ -22,7 +22,10 @@ use denote.RattleType.{RattleType}
 use denote.Param.Laws.{Laws, IsCopy}
 use mir.Syntax.{Dict}
 use Rattle.std.specs.declared.clone.Clone.{Ghosts}
-use Rattle.basics.proofs.Refusals.{told_one}
+use Rattle.basics.specs.Refusal.{refusal_number, refusal_with, refusal_told}
+use Rattle.basics.specs.declared.refusal.Refusal.{Refusal}
+use Rattle.basics.proofs.Refusals.{told_one, with_number, number_some, settings_told, error_none, none_error}
+use Rattle.std.specs.Prelude.{Ok}
 use Rattle.basics.proofs.One.{OneAnswer, OneContent, one_value, one_case}
 use Rattle.basics.proofs.two_at.Kinds as two-at-kinds
 use Rattle.basics.proofs.two_at.Reads as two-at
@@ -52,6 +55,10 @@ use Rattle.basics.proofs.capture.size_refusal.Kinds as size-refusal-kinds
 use Rattle.basics.proofs.capture.size_refusal.Reads as size-refusal
 use Rattle.basics.proofs.capture.size_refusal.Statement as size-refusal-statement
 use Rattle.basics.proofs.capture.size_refusal.Met as size-refusal-met
+use Rattle.basics.proofs.refusal.Refusal.number.Kinds as number-kinds
+use Rattle.basics.proofs.refusal.Refusal.number.Reads as number-fn
+use Rattle.basics.proofs.refusal.Refusal.number.Statement as number-statement
+use Rattle.basics.proofs.refusal.Refusal.number.Met as number-met
 
 -- Each public function answers, and leaves in the memory that it was lent, what its definition says, for every input.
 -- (`statement` is the contract, as the checker reads it off the source; it asks nothing of the caller.)
@@ -75,6 +82,9 @@ settings_refusal_right = settings-refusal-met.met
 
 size_refusal_right : {M : Type 1} → size-refusal-statement.statement M
 size_refusal_right = size-refusal-met.met
+
+number_right : {M : Type 1} → number-statement.statement M
+number_right = number-met.met
 
 -- A number that was written where it has room is read back.
 two_right : (bytes : List ℕ) (at v : ℕ) → at + 1 < length bytes → two_at (sets bytes at (two_bytes v)) at ≡ v
@@ -138,6 +148,28 @@ settings_complete : (first second n mask : ℕ) → sections_fit n ≡ true → 
     → first_of (settings_checks first second n mask) ≡ 0
 settings_complete = fit_settings
 
+-- And `settings_refusal` is right, whatever it is handed to refuse with, exactly if n and the mask fit.
+checks_right : {E : Type 0} (first second : E) (n mask : ℕ) → first_error (settings_checks first second n mask) ≡ Ok tt
+    → (sections_fit n ≡ true) × (mask_fits n mask ≡ true)
+checks_right = error_none
+
+checks_complete : {E : Type 0} (first second : E) (n mask : ℕ) → sections_fit n ≡ true → mask_fits n mask ≡ true
+    → first_error (settings_checks first second n mask) ≡ Ok tt
+checks_complete = none_error
+
+-- With two refusals it answers the one whose number is that of the first check that applies.
+checks_numbered : (first second : Refusal) (n mask : ℕ)
+    → refusal_told (first_error (settings_checks first second n mask))
+    ≡ first_of (settings_checks (refusal_number first) (refusal_number second) n mask)
+checks_numbered = settings_told
+
+-- A number names one refusal, and none has the number 0.
+refusal_back : (e : Refusal) → refusal_with (refusal_number e) ≡ e
+refusal_back = with_number
+
+refusal_some : (e : Refusal) → refusal_number e ≡ 0 → ⊥
+refusal_some = number_some
+
 -- A capture's size is refused with nothing exactly if it is whole steps and at most 65,536 bytes.
 size_right : (size : ℕ) → first_of (size_faults size) ≡ 0 → (size % 4 ≡ 0) × (size ≤ most)
 size_right = size_fits
@@ -171,6 +203,9 @@ settings_refusal_unique : (E : RattleType) (laws : Laws E) (copied : IsCopy E) (
     → OneAnswer 1 (settings-refusal-kinds.ps E laws copied) (settings-refusal-kinds.r E laws copied)
     (settings-refusal.Post E laws copied clone dict)
 settings_refusal_unique E laws copied clone dict κs args x y s t p q = one_value p q
+
+number_unique : OneAnswer 0 number-kinds.ps number-kinds.r number-fn.Post
+number_unique κs args x y s t p q = one_value p q
 
 size_refusal_unique : OneAnswer 0 size-refusal-kinds.ps size-refusal-kinds.r size-refusal.Post
 size_refusal_unique κs args x y s t p q = told_one x y (one_value p q)
