@@ -97,7 +97,6 @@ fn given(command: Command) -> Request
     ensures { result ≡ given (command_number command) (command_channel command) }
 {
     match command {
-        Command::None | Command::Clear => NO_REQUEST,
         Command::Lockout => Request {
             code: LOCKOUT,
             channel: 0,
@@ -110,6 +109,7 @@ fn given(command: Command) -> Request
             code: MANUAL_SWITCH,
             channel,
         },
+        _ => NO_REQUEST,
     }
 }
 

@@ -18,15 +18,14 @@ pub(crate) fn high(mask: u16, c: u8) -> bool
 pub fn condition(mask: u16, c: u8, x: u8) -> Request
     ensures { result ≡ condition mask c x }
 {
-    let (high_code, low_code) = match x {
-        2 => (FAIL_HIGH, FAIL_LOW),
-        1 => (DEGRADE_HIGH, DEGRADE_LOW),
+    let code = match x {
+        2 if high(mask, c) => FAIL_HIGH,
+        2 => FAIL_LOW,
+        1 if high(mask, c) => DEGRADE_HIGH,
+        1 => DEGRADE_LOW,
         _ => return NO_REQUEST,
     };
-    Request {
-        code: if high(mask, c) { high_code } else { low_code },
-        channel: c,
-    }
+    Request { code, channel: c }
 }
 
 // The condition of section 0 that a step acts on: failed, where an alarm is received (02, c).

@@ -8,7 +8,7 @@ use Rattle.controller.proofs.local.local_request.Goals as goal
 pub ranks-init : goal.ranks-init
 ranks-init c =
     let a = c.args in
-    (rw (as_long a.protection a.conditions.now c.requires.0) c.of_sections-turns.ensures, first_asked _ _ (search rules), refl)
+    (rw (as_long a.protection a.conditions.now c.requires.0) c.section_ranks-past_last.ensures, first_asked _ _ (search rules), refl)
 
 pub ranks-preserved : goal.ranks-preserved
 ranks-preserved c =
@@ -41,10 +41,10 @@ returns-then-wait-rank c =
     wait.ensures ∙ sym (wait_hit _ _ c.ranks-test.true at.invariant.0 at.invariant.1 c.requires.3
     (λ is. c.if-command-rank.false (c.args.command.is_its_rank ∙ is)) has)
 
-pub returns-then-turns-at : goal.returns-then-turns-at
-returns-then-turns-at c =
+pub returns-then-ranks-at : goal.returns-then-ranks-at
+returns-then-ranks-at c =
     let at = c.ranks in
     rw (c.section_asks-found.ensures, c.section_at.ensures)
     (sym
-    (section_hit _ _ c.ranks-test.true at.invariant.0 at.invariant.1 _ c.loop-at.invariant.0 _ c.if-turns-at.true
+    (section_hit _ _ c.ranks-test.true at.invariant.0 at.invariant.1 _ c.loop-at.invariant.0 _ c.if-ranks-at.true
     (λ t h. omega arith)))

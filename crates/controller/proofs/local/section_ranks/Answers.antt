@@ -1,8 +1,9 @@
-use Rattle.std.proofs.Common.{arith, ◌≡◌, refl, sym, ap, ◌∙◌, ◌∷◌, ℕ, ◌≤◌, zero-le, List, length, drop, slice_index}
+use Rattle.std.proofs.Common.{arith, ◌≡◌, sym, ap, ◌∙◌, ◌∷◌, ℕ, ◌≤◌, zero-le, List, length, drop, slice_index}
+use lib.ListN.{length-replicate}
 use Rattle.controller.specs.Asking.{asks}
 use Rattle.controller.specs.Rules.{condition}
 use Rattle.controller.proofs.Sections.{past_first, none_ranked, laid_ranked}
-use Rattle.controller.proofs.local.Turns.of_sections.Goals as goal
+use Rattle.controller.proofs.local.section_ranks.Goals as goal
 
 -- what section c asks for, c being 1 or more
 asks_at : (mask protection c : ℕ) (conditions : List ℕ) → 1 ≤ c
@@ -14,8 +15,10 @@ pub loop-c-init : goal.loop-c-init
 loop-c-init c =
     let a = c.args in
     let all = a.protection ∷ drop 1 a.conditions.now in
-    laid_ranked a.mask all a.last c.condition.result _ _ 0 0 c.lay.new.self.past_last (none_ranked a.mask all a.last) refl
-    zero-le c.condition.ensures c.lay.ensures
+    let blank = ap length c.requires.2 ∙ length-replicate {A = ℕ} 16 0 in (
+    laid_ranked a.mask all a.last c.condition.result a.ranks.now _ 0 0 c.lay-past_last.result
+    (rw c.requires.2 (none_ranked a.mask all a.last)) blank zero-le c.condition.ensures c.lay-past_last.ensures
+    )
 
 pub loop-c-preserved : goal.loop-c-preserved
 loop-c-preserved c =
@@ -23,9 +26,10 @@ loop-c-preserved c =
     let at = c.loop-c in
     let looked = c.loop-c-test.true in
     let few = c.requires.1 in
-    laid_ranked a.mask (a.protection ∷ drop 1 a.conditions.now) a.last c.condition-in-loop-c.result at.turns.ranks _ at.c
-    at.turns.past_last c.lay-in-loop-c.new.self.past_last at.invariant.0 at.invariant.1 (omega arith)
-    (c.condition-in-loop-c.ensures ∙ asks_at a.mask a.protection at.c a.conditions.now at.auto.c) c.lay-in-loop-c.ensures
+    laid_ranked a.mask (a.protection ∷ drop 1 a.conditions.now) a.last c.condition-asked.result at.ranks _ at.c
+    at.past_last c.lay-past_last-in-loop-c.result at.invariant.0 at.invariant.1 (omega arith)
+    (c.condition-asked.ensures ∙ asks_at a.mask a.protection at.c a.conditions.now at.auto.c)
+    c.lay-past_last-in-loop-c.ensures
 
 pub returns : goal.returns
 returns c =
