@@ -1,12 +1,12 @@
 -- The way forward over both tables: what is written before a step and what is left to write from it on are the whole.
 use mathlib.Core.Path.{◌≡◌, refl, sym, ap, ◌∙◌}
 use mathlib.Core.Bool.{Bool, true, false}
-use mathlib.Core.List.{List, [], ◌∷◌, ◌++◌, append-nil}
+use mathlib.Core.List.{List, ◌∷◌, ◌++◌}
 use Prim.Native.Nat.{ℕ, suc, ◌+◌, ◌*◌, ◌≤◌, ◌<◌, zero-le}
 use native.Mathlib.Numerals.{add-one}
 use native.Mathlib.Omega.{arith}
-use lib.ListN.{length, take, drop, set, length-set, drop_of_length-le}
-use lib.Seq.{length-take-le, drop-cons, append_snoc, get_or-take, take-suc-set, take_all}
+use lib.ListN.{length, take, drop, set, length-set}
+use lib.Seq.{length-take-le, drop-cons, append_snoc, get_or-take, take-suc-set}
 use Rattle.basics.specs.Capture.{Row, rows_of, row_at}
 use Rattle.pair.specs.Marks.{channel_of}
 use Rattle.explain.specs.Filling.{conditions_kept, command_kept, followed, along, ended, Keeps}
@@ -56,14 +56,6 @@ module _ {f : Records → Row → ℕ} {begin possible : Records} {rows : List R
             ∙ ap (λ (l : List Row). take step table ++ along f possible l) (sym here)
             ∙ k.joins;
       }
-
-  kept_done : drop step rows ≡ [] → length rows ≤ step → table ≡ along f begin rows
-  kept_done none past =
-      let room = k.room in
-      sym (take_all step table (omega arith))
-      ∙ sym (append-nil (take step table))
-      ∙ ap (λ (l : List Row). take step table ++ along f possible l) (sym none)
-      ∙ k.joins
 
 -- what is written of a step, as `conditions_along` and `commands_along` have it
 abbrev conditions_of : Records → Row → ℕ
@@ -185,17 +177,3 @@ module _ {hold : Bool} {bytes : List ℕ} {steps : ℕ} {begin possible : Record
               conditions = kept_next k.conditions here from_here in_rows e';
               commands = kept_next k.commands here from_here in_rows f';
             }
-
-  module _ (h : steps ≤ step) where
-    none_left : drop step rows ≡ []
-    none_left = drop_of_length-le rows {i = step} (omega (arith, long))
-
-    pub keeping_ended : possible.heard ≡ (ended begin rows).heard
-    keeping_ended =
-        k.heard ∙ ap (λ (d : Records). d.heard) (ap (ended k.scan) (sym none_left) ∙ k.ends)
-
-    pub conditions_kept_lem : table ≡ along conditions_of begin rows
-    conditions_kept_lem = kept_done k.conditions none_left (omega (arith, long))
-
-    pub commands_kept : table2 ≡ along (commands_of hold) begin rows
-    commands_kept = kept_done k.commands none_left (omega (arith, long))

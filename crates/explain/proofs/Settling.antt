@@ -1,10 +1,10 @@
 -- The way back over a table of conditions: each step behind the place has its settled word, and each before it what it had.
-use mathlib.Core.Path.{◌≡◌, refl, sym, ap, ◌∙◌}
+use mathlib.Core.Path.{◌≡◌, sym, ap, ◌∙◌}
 use mathlib.Core.Bool.{Bool}
-use mathlib.Core.List.{List, [], ◌∷◌}
+use mathlib.Core.List.{List, ◌∷◌}
 use Prim.Native.Nat.{ℕ, suc, ◌-◌, ◌≤◌, ◌<◌}
 use native.Mathlib.Omega.{arith}
-use lib.ListN.{length, get_or, take, drop, set, length-set, drop_of_length-le}
+use lib.ListN.{length, get_or, take, drop, set, length-set}
 use lib.Seq.{drop-cons, get_or-take, get_or-set_same, take-set-le, drop-set-lt, take-take}
 use Rattle.explain.specs.Filling.{idle_back, settled_word, idle_before, settled}
 
@@ -14,11 +14,6 @@ pub record Settling (idle : Bool) (old table : List ℕ) (behind : Bool) (at : �
   pub before : take at table ≡ take at old
   pub settles : drop at table ≡ settled idle (drop at old)
   pub state : behind ≡ idle_before idle (drop at old)
-
-pub settling_start : (idle : Bool) (table : List ℕ) → Settling idle table table idle (length table)
-settling_start idle table =
-    let none : drop (length table) table ≡ [] = drop_of_length-le table {i = length table} (omega arith) in
-    record { within = omega arith; long = refl; before = refl; settles = rw none; state = rw none }
 
 -- a list from the entry on that was written
 written_at : (list : List ℕ) (i v : ℕ) → i < length list → drop i (set list i v) ≡ v ∷ drop (suc i) list
@@ -74,8 +69,3 @@ module _ {idle : Bool} {old table : List ℕ} {behind : Bool} {at : ℕ} (p : Se
               written_at table place value in_table ∙ (λ k. is k ∷ rest k) ∙ ap (settled idle) (sym from_here);
           state = f ∙ (λ k. idle_back (p.state k) word) ∙ ap (idle_before idle) (sym from_here);
         }
-
-  pub settling_done : at ≤ 0 → table ≡ settled idle old
-  settling_done h =
-      let none : at ≡ 0 = omega arith in
-      rw none at p.settles

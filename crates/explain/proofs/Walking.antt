@@ -1,13 +1,13 @@
 -- The walk over a capture's bytes: what is left to scan gives the verdict of the whole.
 use mathlib.Core.Path.{◌≡◌, refl, sym, ap, subst, ◌∙◌}
-use mathlib.Core.Bool.{true, false}
+use mathlib.Core.Bool.{true}
 use mathlib.Core.List.{List, ◌∷◌}
-use Prim.Native.Nat.{ℕ, suc, ◌+◌, ◌-◌, ◌*◌, ◌/◌, ◌%◌, ◌≤◌, ◌<◌, zero-le}
+use Prim.Native.Nat.{ℕ, suc, ◌+◌, ◌-◌, ◌*◌, ◌/◌, ◌%◌, ◌≤◌, ◌<◌}
 use native.Mathlib.Omega.{arith}
-use lib.ListN.{length, drop, drop_of_length-le}
+use lib.ListN.{length, drop}
 use lib.Seq.{drop-drop}
 use Rattle.basics.specs.Capture.{Row, rows_of, row_at, most}
-use Rattle.explain.specs.Scan.{all, first, scan_from}
+use Rattle.explain.specs.Scan.{scan_from}
 use Rattle.explain.specs.Trace.{live, next, passes, passed, Fit, verdict_of}
 use Rattle.explain.specs.declared.Records.{Records}
 use Rattle.basics.proofs.Rows.{row_here, rows_behind}
@@ -27,11 +27,6 @@ pub record Walk (bytes : List ℕ) (begin possible : Records) (at : ℕ) : Type 
       verdict_of (scan_from next live (at / 4) possible (rows_of (drop at bytes)))
       ≡ verdict_of (scan_from next live 0 begin (rows_of bytes))
 
-pub walk_start : (bytes : List ℕ) (begin : Records) → length bytes % 4 ≡ 0
-    → length bytes ≤ most → Fit begin → Walk bytes begin begin 0
-walk_start bytes begin whole small fit =
-    record { place = refl; within = zero-le; whole = whole; small = small; fit = fit; remains = refl }
-
 module _ {bytes : List ℕ} {begin possible : Records} {at : ℕ} (w : Walk bytes begin possible at) where
   abbrev here : Row
   here = row_at bytes at
@@ -41,12 +36,6 @@ module _ {bytes : List ℕ} {begin possible : Records} {at : ℕ} (w : Walk byte
   whole_step h =
       let p = w.place in
       let q = w.whole in
-      omega arith
-
-  pub few_steps : at / 4 < 65536
-  few_steps =
-      let p = w.within in
-      let q = w.small in
       omega arith
 
   pub few_rows : {run : ℕ} → run ≡ repeated bytes (at + 4) → run < 65536
@@ -80,16 +69,6 @@ module _ {bytes : List ℕ} {begin possible : Records} {at : ℕ} (w : Walk byte
         remains =
             ap (λ (k : ℕ). verdict_of (scan_from next live k (next possible here) rest)) on ∙ (rw goes at (step_here h));
       }
-
-  pub walk_stop : at < length bytes → {new : Records} → new ≡ next possible here → live new ≡ false
-      → verdict_of (first (at / 4)) ≡ verdict_of (scan_from next live 0 begin (rows_of bytes))
-  walk_stop h {new} is e =
-      let stops : live (next possible here) ≡ false = rw is at e in
-      rw stops at (step_here h)
-
-  pub walk_done : length bytes ≤ at
-      → verdict_of (all (at / 4)) ≡ verdict_of (scan_from next live 0 begin (rows_of bytes))
-  walk_done h = rw (drop_of_length-le bytes h) at w.remains
 
   -- rows that repeat the one before the place are passed over
   walk_past : (before : ℕ) → at ≡ before + 4 → Behind (row_at bytes before) possible → (run few : ℕ)
