@@ -10,7 +10,7 @@ ghost use Rattle.request.specs.Command.{fate_number};
 use crate::acceptance::accepting;
 use crate::asked::{asked, k1_of};
 use crate::codes::NOTHING;
-use crate::command::{Command, Commands, counts, held_after};
+use crate::command::{Command, Commands, counts, held_after, number};
 use crate::local::{decided, local_request};
 use crate::numbered::Received;
 use crate::section::protection;
@@ -63,7 +63,7 @@ pub(crate) fn moved(
     s: Controller,
     received: Received,
     conditions: &[u8],
-    command: Command,
+    command: Option<Command>,
 ) -> Outcome
     requires { refusal s conditions.now (command_number command) (command_channel command) ≡ 0 }
     ensures { outcome_told result ≡ moved s received.k1 received.k2 (acts_on (alarm s.n received.k1 received.k2) conditions.now) (command_number command) (command_channel command) }
@@ -75,11 +75,11 @@ pub(crate) fn moved(
     let commands = Commands::of(s, last, command);
     let stands = commands.stands;
     let held = held_after(s.hold, stands.request);
-    let now = wait_of(s, last, command.number());
+    let now = wait_of(s, last, number(command));
     let wait = waiting(now, last);
     let near = local_request(s.mask, last, protect, conditions, stands, wait);
     let sent = decided(far.request, near);
     let counted = counts(s.hold, sent, commands.new);
-    let fate = fate(command.number(), commands.replaced, counted);
+    let fate = fate(number(command), commands.replaced, counted);
     answering(s, far, sent, now, held, fate)
 }

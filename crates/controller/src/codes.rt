@@ -1,4 +1,5 @@
-// The request codes of the table (01, 'The byte pair').
+// The request codes of the table (01, 'The byte pair'). They stay numbers: a K1 may have any of sixteen codes, and the definitions
+// and theorems speak of codes as numbers.
 use request::Request;
 
 pub const LOCKOUT: u8 = 0b1111;

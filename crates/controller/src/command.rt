@@ -13,52 +13,49 @@ use crate::ranked::RankedRequest;
 use basics::refusal::Refusal;
 use request::{Request, replaces};
 
-// A command of a step, FS and MS with their section.
+// A command that a step may be given, FS and MS with their section.
 #[derive(Clone, Copy)]
 pub(crate) enum Command {
-    None,
     Clear,
     Lockout,
     Forced(u8),
     Manual(u8),
 }
 
-impl Command {
-    // What a number and a channel stand for, with n sections.
-    pub(crate) fn read(n: u8, number: u8, channel: u8) -> Result<Command, Refusal>
-        ensures refused { refusal_told result ≡ first_of (command_faults n number channel) }
-        ensures read { IfOk result (λ command. (command_number command ≡ number) × (command_channel command ≡ channel)) }
-    {
-        let command = match number {
-            0 => Command::None,
-            1 => Command::Clear,
-            2 => Command::Lockout,
-            3 => Command::Forced(channel),
-            4 => Command::Manual(channel),
-            _ => return Err(Refusal::Command),
-        };
-        let fits = match command {
-            Command::Forced(c) | Command::Manual(c) => 1 <= c && c <= n,
-            _ => channel == 0,
-        };
-        if fits {
-            Ok(command)
-        } else {
-            Err(Refusal::CommandChannel)
-        }
+// The command that a number and a channel stand for, with n sections.
+pub(crate) fn read(n: u8, number: u8, channel: u8) -> Result<Option<Command>, Refusal>
+    ensures refused { refusal_told result ≡ first_of (command_faults n number channel) }
+    ensures read { IfOk result (λ command. (command_number command ≡ number) × (command_channel command ≡ channel)) }
+{
+    let command = match number {
+        0 => None,
+        1 => Some(Command::Clear),
+        2 => Some(Command::Lockout),
+        3 => Some(Command::Forced(channel)),
+        4 => Some(Command::Manual(channel)),
+        _ => return Err(Refusal::Command),
+    };
+    let fits = match command {
+        Some(Command::Forced(c) | Command::Manual(c)) => 1 <= c && c <= n,
+        _ => channel == 0,
+    };
+    if fits {
+        Ok(command)
+    } else {
+        Err(Refusal::CommandChannel)
     }
+}
 
-    // The paper's number of it.
-    pub(crate) fn number(self) -> u8
-        ensures { result ≡ command_number self }
-    {
-        match self {
-            Command::None => 0,
-            Command::Clear => 1,
-            Command::Lockout => 2,
-            Command::Forced(_) => 3,
-            Command::Manual(_) => 4,
-        }
+// Its number, by which its fate and the wait go (`fate` of `request`, and `wait_of`, which the judge hands 0).
+pub(crate) fn number(command: Option<Command>) -> u8
+    ensures { result ≡ command_number command }
+{
+    match command {
+        None => 0,
+        Some(Command::Clear) => 1,
+        Some(Command::Lockout) => 2,
+        Some(Command::Forced(_)) => 3,
+        Some(Command::Manual(_)) => 4,
     }
 }
 
@@ -84,28 +81,28 @@ fn held_by(hold: bool, k1: u8, last: Request) -> Request
     if hold { asked(k1) } else { held(last) }
 }
 
-fn kept(command: Command, prior: Request) -> Request
+fn kept(command: Option<Command>, prior: Request) -> Request
     ensures { result ≡ kept (command_number command) prior }
 {
     match command {
-        Command::Clear => NO_REQUEST,
+        Some(Command::Clear) => NO_REQUEST,
         _ => prior,
     }
 }
 
-fn given(command: Command) -> Request
+fn given(command: Option<Command>) -> Request
     ensures { result ≡ given (command_number command) (command_channel command) }
 {
     match command {
-        Command::Lockout => Request {
+        Some(Command::Lockout) => Request {
             code: LOCKOUT,
             channel: 0,
         },
-        Command::Forced(channel) => Request {
+        Some(Command::Forced(channel)) => Request {
             code: FORCED_SWITCH,
             channel,
         },
-        Command::Manual(channel) => Request {
+        Some(Command::Manual(channel)) => Request {
             code: MANUAL_SWITCH,
             channel,
         },
@@ -123,7 +120,7 @@ pub(crate) struct Commands {
 
 impl Commands {
     // `last` is what was last sent.
-    pub(crate) fn of(s: Controller, last: Request, command: Command) -> Commands
+    pub(crate) fn of(s: Controller, last: Request, command: Option<Command>) -> Commands
         ensures new { result.new ≡ given (command_number command) (command_channel command) }
         ensures replaced { result.replaced ≡ replaces_held (kept (command_number command) (held_by s.hold s.held last)) result.new }
         ensures stands { result.stands.request ≡ in_force result.replaced (kept (command_number command) (held_by s.hold s.held last)) result.new }

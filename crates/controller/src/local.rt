@@ -20,7 +20,7 @@ fn section_asks(mask: u16, protection: u8, conditions: &[u8], c: u8) -> Request
     if c == 0 {
         condition(mask, 0, protection)
     } else {
-        condition(mask, c, conditions[c as usize])
+        condition(mask, c, conditions[usize::from(c)])
     }
 }
 

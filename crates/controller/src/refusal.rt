@@ -9,7 +9,7 @@ ghost use Rattle.std.specs.Prelude.{true, IfOk, ◌≡◌};
 use crate::Controller;
 use crate::asked::asked;
 use crate::codes::{DEGRADE_HIGH, DEGRADE_LOW, FAIL_HIGH, FAIL_LOW};
-use crate::command::{Command, is_command};
+use crate::command::{Command, is_command, read};
 use crate::numbered::Numbered;
 use crate::section::high;
 use crate::wait::is_wait;
@@ -44,7 +44,6 @@ fn wait_fits(code: u8, w: u16, left: u16) -> bool
     }
 }
 
-#[tactic(auto, using(pair::proofs::Looking::usable_looked))]
 fn held_fits(numbered: Numbered) -> bool
     requires { sections_fit numbered.controller.n ≡ true }
     ensures { result ≡ held_fits numbered.controller.n numbered.controller.hold numbered.controller.held }
@@ -81,9 +80,9 @@ pub(crate) fn refusal_of(
     conditions: &[u8],
     command: u8,
     c: u8,
-) -> Result<Command, Refusal>
+) -> Result<Option<Command>, Refusal>
     ensures refused { refusal_told result ≡ refusal numbered.controller conditions.now command c }
-    ensures read { IfOk result (λ read. (command_number read ≡ command) × (command_channel read ≡ c)) }
+    ensures read { IfOk result (λ given. (command_number given ≡ command) × (command_channel given ≡ c)) }
 {
     let n = numbered.controller.n;
     let mask = numbered.controller.mask;
@@ -97,5 +96,5 @@ pub(crate) fn refusal_of(
     if !conditions_fit(conditions) {
         return Err(Refusal::Condition);
     }
-    Command::read(n, command, c)
+    read(n, command, c)
 }

@@ -14,7 +14,8 @@ pub(crate) fn high(mask: u16, c: u8) -> bool
     c <= 16 && ((2 * u32::from(mask) + 1) >> c) % 2 == 1
 }
 
-// Whether it is of high priority is asked for a section that is bad, since most are good.
+// Whether it is of high priority is asked for a section that is bad, since most are good. The condition stays a number: it is
+// handed in as one, and refusal 5 is about numbers above 2.
 pub fn condition(mask: u16, c: u8, x: u8) -> Request
     ensures { result ≡ condition mask c x }
 {

@@ -41,9 +41,6 @@ returns-in-Ok c =
     let none = eq-eqb (refusal a.self a.conditions.now a.command a.channel) 0 (sym c.in-Ok.ensures.refused) in
     told_answers (step_back _) (rw none (rw (read.0, read.1) at c.moved.ensures))
 
-pub moved-requires : goal.moved-requires
-moved-requires c = let read = c.in-Ok.ensures.read in rw (read.0, read.1) (sym c.in-Ok.ensures.refused)
-
 pub returns-in-Err : goal.returns-in-Err
 unfolding step
 returns-in-Err c = told_answers (step_back _) (rw (← c.in-Err.ensures.refused, ne_eqb (refusal_number c.in-Err.refusal) 0 (number_some c.in-Err.refusal)))
