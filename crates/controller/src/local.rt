@@ -53,6 +53,7 @@ fn section_ranks(
     // Section 0 by itself: its condition is handed in apart, and the loop need not ask at each section which it is.
     let mut past_last = lay(condition(mask, 0, protection), last, ranks, 0);
     for c in 1..conditions.len() {
+        // It is 14 at most, and so below in `section_at`: `u8::try_from` would be a Result that never fails.
         let asked = condition(mask, c as u8, conditions[c]);
         past_last = lay(asked, last, ranks, past_last);
     }
