@@ -1,4 +1,5 @@
 // The words of a cause as a line has them (02, a).
+use controller::command::read;
 use std::fmt;
 
 // Sections 0 to n in rising order: a word has two bits for each, section 0 lowest.
@@ -19,37 +20,20 @@ impl fmt::Display for Conditions {
     }
 }
 
-// The command is the upper byte, its channel the lower. No cause has a command above 4 (refusal 6).
-#[derive(Clone, Copy, Debug, PartialEq, Eq)]
-pub(crate) enum Command {
-    None,
-    Clear,
-    Lockout,
-    Forced(u8),
-    Manual(u8),
+// The command that the word of a cause stands for, which is the upper byte, its channel the lower. No word of a cause is refused
+// as a command (refusals 6 and 7).
+#[derive(Clone, Copy)]
+pub(crate) struct Given {
+    pub n: u8,
+    pub word: u16,
 }
 
-impl From<u16> for Command {
-    fn from(word: u16) -> Command {
-        let [command, channel] = word.to_be_bytes();
-        match command {
-            1 => Command::Clear,
-            2 => Command::Lockout,
-            3 => Command::Forced(channel),
-            4 => Command::Manual(channel),
-            _ => Command::None,
-        }
-    }
-}
-
-impl fmt::Display for Command {
+impl fmt::Display for Given {
     fn fmt<W: fmt::Write>(&self, f: &mut fmt::Formatter<W>) -> fmt::Result {
-        match self {
-            Command::None => write!(f, "none"),
-            Command::Clear => write!(f, "clear"),
-            Command::Lockout => write!(f, "LO"),
-            Command::Forced(channel) => write!(f, "FS {channel}"),
-            Command::Manual(channel) => write!(f, "MS {channel}"),
+        let [number, channel] = self.word.to_be_bytes();
+        match read(self.n, number, channel) {
+            Ok(Some(command)) => write!(f, "{command}"),
+            _ => write!(f, "none"),
         }
     }
 }
@@ -69,7 +53,7 @@ mod tests {
             (0x0301, "FS 1"),
             (0x040E, "MS 14"),
         ] {
-            let printed = Command::from(word).to_string(rt.alloc())?;
+            let printed = Given { n: 14, word }.to_string(rt.alloc())?;
             assert_eq!(rt; printed.as_str(), text);
         }
         let conditions = Conditions {

@@ -3,7 +3,7 @@ ghost use Rattle.book.specs.Format.{hold_in, body_of};
 ghost use Rattle.explain.specs.Causes.{Causes};
 ghost use Rattle.explain.specs.Verdict.{told};
 
-use crate::line::{Command, Conditions};
+use crate::line::{Conditions, Given};
 use basics::refusal::Refusal;
 use basics::two_at;
 use book::{Entry, body};
@@ -43,7 +43,7 @@ fn put_steps(
         let received = two_at(row, 0);
         let sent = two_at(row, 2);
         let conditions = Conditions { n, word: *word };
-        let command = Command::from(*command);
+        let command = Given { n, word: *command };
         page.next_line(LONGEST);
         writeln!(
             page,

@@ -14,4 +14,5 @@ pub mod Keeping
 mod Staying
 pub mod Ranking
 mod Remembering
+pub mod Commands
 mod Theorems

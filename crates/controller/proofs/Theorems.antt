@@ -43,6 +43,22 @@ use Rattle.controller.proofs.command.held.Kinds as held-kinds
 use Rattle.controller.proofs.command.held.Reads as held_fn
 use Rattle.controller.proofs.command.held.Statement as held-statement
 use Rattle.controller.proofs.command.held.Met as held-met
+use Rattle.controller.proofs.command.read.Kinds as read-kinds
+use Rattle.controller.proofs.command.read.Reads as read-fn
+use Rattle.controller.proofs.command.read.Statement as read-statement
+use Rattle.controller.proofs.command.read.Met as read-met
+use Rattle.controller.proofs.command.number.Kinds as command-number-kinds
+use Rattle.controller.proofs.command.number.Reads as command-number-fn
+use Rattle.controller.proofs.command.number.Statement as command-number-statement
+use Rattle.controller.proofs.command.number.Met as command-number-met
+use Rattle.controller.proofs.command.channel.Kinds as command-channel-kinds
+use Rattle.controller.proofs.command.channel.Reads as command-channel-fn
+use Rattle.controller.proofs.command.channel.Statement as command-channel-statement
+use Rattle.controller.proofs.command.channel.Met as command-channel-met
+use Rattle.std.specs.Prelude.{Option}
+use Rattle.controller.proofs.Commands.{command_back, read_one}
+use Rattle.controller.specs.Command.{command_number, command_channel, command_with}
+use Rattle.controller.specs.declared.command.Command.{Command}
 use Rattle.controller.proofs.section.condition.Kinds as condition-kinds
 use Rattle.controller.proofs.section.condition.Reads as condition-fn
 use Rattle.controller.proofs.section.condition.Statement as condition-statement
@@ -222,6 +238,28 @@ ends_right : (far near : Request) → 0 < rank_of_request far → rank_of_reques
     → (far.channel < near.channel → decided far near ≡ reverse far.channel)
     × (near.channel ≤ far.channel → decided far near ≡ near)
 ends_right far near some same = (ends_lower far near some same, ends_ours far near same)
+
+-- A command is read off its number and its channel, or refused; and they name one command, or none.
+command_read_right : {M : Type 1} → read-statement.statement M
+command_read_right = read-met.met
+
+command_number_right : {M : Type 1} → command-number-statement.statement M
+command_number_right = command-number-met.met
+
+command_channel_right : {M : Type 1} → command-channel-statement.statement M
+command_channel_right = command-channel-met.met
+
+command_named : (c : Option Command) → command_with (command_number c) (command_channel c) ≡ c
+command_named = command_back
+
+command_read_unique : OneAnswer 0 read-kinds.ps read-kinds.r read-fn.Post
+command_read_unique κs args x y s t p q = read_one _ _ _ x y p.0 p.1 q.0 q.1
+
+command_number_unique : OneAnswer 0 command-number-kinds.ps command-number-kinds.r command-number-fn.Post
+command_number_unique κs args x y s t p q = one_value p q
+
+command_channel_unique : OneAnswer 0 command-channel-kinds.ps command-channel-kinds.r command-channel-fn.Post
+command_channel_unique κs args x y s t p q = one_value p q
 
 -- RR and NR never win: against them the local request is sent.
 reverse_right : (c : ℕ) (near : Request) → decided (reverse c) near ≡ near

@@ -12,10 +12,11 @@ use crate::codes::{FORCED_SWITCH, LOCKOUT, MANUAL_SWITCH, NO_REQUEST};
 use crate::ranked::RankedRequest;
 use basics::refusal::Refusal;
 use request::{Request, replaces};
+use std::fmt;
 
 // A command that a step may be given, FS and MS with their section.
-#[derive(Clone, Copy)]
-pub(crate) enum Command {
+#[derive(Clone, Copy, Debug, PartialEq, Eq)]
+pub enum Command {
     Clear,
     Lockout,
     Forced(u8),
@@ -23,7 +24,7 @@ pub(crate) enum Command {
 }
 
 // The command that a number and a channel stand for, with n sections.
-pub(crate) fn read(n: u8, number: u8, channel: u8) -> Result<Option<Command>, Refusal>
+pub fn read(n: u8, number: u8, channel: u8) -> Result<Option<Command>, Refusal>
     ensures refused { refusal_told result ≡ first_of (command_faults n number channel) }
     ensures read { IfOk result (λ command. (command_number command ≡ number) × (command_channel command ≡ channel)) }
 {
@@ -47,7 +48,7 @@ pub(crate) fn read(n: u8, number: u8, channel: u8) -> Result<Option<Command>, Re
 }
 
 // Its number, by which its fate and the wait go (`fate` of `request`, and `wait_of`, which the judge hands 0).
-pub(crate) fn number(command: Option<Command>) -> u8
+pub fn number(command: Option<Command>) -> u8
     ensures { result ≡ command_number command }
 {
     match command {
@@ -56,6 +57,28 @@ pub(crate) fn number(command: Option<Command>) -> u8
         Some(Command::Lockout) => 2,
         Some(Command::Forced(_)) => 3,
         Some(Command::Manual(_)) => 4,
+    }
+}
+
+// The section that it names, 0 where it names none.
+pub fn channel(command: Option<Command>) -> u8
+    ensures { result ≡ command_channel command }
+{
+    match command {
+        Some(Command::Forced(c) | Command::Manual(c)) => c,
+        _ => 0,
+    }
+}
+
+// As the lines of a cause have it (02, a).
+impl fmt::Display for Command {
+    fn fmt<W: fmt::Write>(&self, f: &mut fmt::Formatter<W>) -> fmt::Result {
+        match self {
+            Command::Clear => write!(f, "clear"),
+            Command::Lockout => write!(f, "LO"),
+            Command::Forced(channel) => write!(f, "FS {channel}"),
+            Command::Manual(channel) => write!(f, "MS {channel}"),
+        }
     }
 }
 
@@ -152,4 +175,23 @@ pub(crate) fn counts(hold: bool, sent: Request, new: Request) -> bool
     ensures { result ≡ counts hold sent new }
 {
     hold | (sent == new)
+}
+
+#[cfg(test)]
+mod tests {
+    use super::*;
+    use std::test::Fail;
+
+    #[test]
+    fn printed(rt: HostRuntime) -> Result<(), Fail> {
+        for (command, text) in [
+            (Command::Clear, "clear"),
+            (Command::Lockout, "LO"),
+            (Command::Forced(1), "FS 1"),
+            (Command::Manual(14), "MS 14"),
+        ] {
+            assert_eq!(rt; format!(in rt.alloc(); "{command}")?.as_str(), text);
+        }
+        Ok(())
+    }
 }

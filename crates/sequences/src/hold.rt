@@ -1,8 +1,8 @@
 // The setting hold (02, g): each sequence with it and then without, where rule 5 of 01 forgets what is not sent.
-use crate::sequence::Order::{Clear, ForcedSwitch, Lockout, ManualSwitch};
 use crate::sequence::{Sequence, Step, TWO};
 use anyhow::Result;
 use basics::settings::Settings;
+use controller::command::Command::{Clear, Forced, Lockout, Manual};
 use std::io::Write;
 
 const SEQUENCES: &[Sequence] = &[
@@ -11,7 +11,7 @@ const SEQUENCES: &[Sequence] = &[
         name: "a forced switch under a failed section 0",
         settings: TWO,
         steps: &[
-            Step(0x00, 0x08, &[0, 0, 0], Some(ForcedSwitch(1))),
+            Step(0x00, 0x08, &[0, 0, 0], Some(Forced(1))),
             Step(0x00, 0x08, &[2, 0, 0], None),
             Step(0x00, 0x08, &[2, 0, 0], None),
             Step(0x00, 0x08, &[0, 0, 0], None),
@@ -23,7 +23,7 @@ const SEQUENCES: &[Sequence] = &[
         name: "a manual switch behind a failed section",
         settings: TWO,
         steps: &[
-            Step(0x00, 0x08, &[0, 2, 0], Some(ManualSwitch(2))),
+            Step(0x00, 0x08, &[0, 2, 0], Some(Manual(2))),
             Step(0x00, 0x08, &[0, 2, 0], None),
             Step(0x00, 0x08, &[0, 0, 0], None),
             Step(0x00, 0x08, &[0, 0, 0], None),
@@ -34,7 +34,7 @@ const SEQUENCES: &[Sequence] = &[
         name: "a lockout over a forced switch",
         settings: TWO,
         steps: &[
-            Step(0x00, 0x08, &[0, 0, 0], Some(ForcedSwitch(1))),
+            Step(0x00, 0x08, &[0, 0, 0], Some(Forced(1))),
             Step(0x00, 0x08, &[0, 0, 0], Some(Lockout)),
             Step(0x00, 0x08, &[0, 0, 0], Some(Clear)),
             Step(0x00, 0x08, &[0, 0, 0], None),
@@ -45,9 +45,9 @@ const SEQUENCES: &[Sequence] = &[
         name: "a second command while the first is overridden",
         settings: TWO,
         steps: &[
-            Step(0x00, 0x08, &[0, 0, 0], Some(ManualSwitch(1))),
-            Step(0x00, 0x08, &[2, 0, 0], Some(ManualSwitch(2))),
-            Step(0x00, 0x08, &[2, 0, 0], Some(ForcedSwitch(2))),
+            Step(0x00, 0x08, &[0, 0, 0], Some(Manual(1))),
+            Step(0x00, 0x08, &[2, 0, 0], Some(Manual(2))),
+            Step(0x00, 0x08, &[2, 0, 0], Some(Forced(2))),
             Step(0x00, 0x08, &[0, 0, 0], None),
             Step(0x00, 0x08, &[0, 0, 0], Some(Clear)),
         ],

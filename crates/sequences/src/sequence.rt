@@ -3,6 +3,7 @@ use crate::answer::Answer;
 use anyhow::Result;
 use basics::settings::Settings;
 use controller::Controller;
+use controller::command::{Command, channel, number};
 use std::fmt;
 use std::io::Write;
 
@@ -14,52 +15,25 @@ pub(crate) const TWO: Settings = Settings {
     w: 3,
 };
 
-// A command, with the section that it names.
-#[derive(Clone, Copy)]
-pub(crate) enum Order {
-    Clear,
-    Lockout,
-    ForcedSwitch(u8),
-    ManualSwitch(u8),
-}
-
-impl Order {
-    // The command and the channel, as a step is handed them.
-    fn numbers(self) -> (u8, u8) {
-        match self {
-            Order::Clear => (1, 0),
-            Order::Lockout => (2, 0),
-            Order::ForcedSwitch(c) => (3, c),
-            Order::ManualSwitch(c) => (4, c),
-        }
-    }
-}
-
 // What a step is handed: the received pair, the conditions, and the command if there is one.
 #[derive(Clone, Copy)]
-pub(crate) struct Step(pub u8, pub u8, pub &'static [u8], pub Option<Order>);
+pub(crate) struct Step(pub u8, pub u8, pub &'static [u8], pub Option<Command>);
 
 impl Step {
-    fn command(self) -> (u8, u8) {
-        self.3.map_or((0, 0), |order| order.numbers())
-    }
-
     fn take(self, controller: Controller) -> Answer {
-        let Step(k1, k2, conditions, _) = self;
-        let (command, channel) = self.command();
-        Answer(controller.step(k1, k2, conditions, command, channel))
+        let Step(k1, k2, conditions, command) = self;
+        Answer(controller.step(k1, k2, conditions, number(command), channel(command)))
     }
 }
 
 impl fmt::Display for Step {
     fn fmt<W: fmt::Write>(&self, f: &mut fmt::Formatter<W>) -> fmt::Result {
-        let Step(k1, k2, conditions, _) = *self;
+        let Step(k1, k2, conditions, command) = *self;
         write!(f, "{k1:02X} {k2:02X} ")?;
         for condition in conditions {
             write!(f, "{condition}")?;
         }
-        let (command, channel) = self.command();
-        write!(f, " {command} {channel}")
+        write!(f, " {} {}", number(command), channel(command))
     }
 }
 

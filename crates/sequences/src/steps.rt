@@ -1,8 +1,8 @@
 // The paper's sequences, and some with commands.
-use crate::sequence::Order::{Clear, ForcedSwitch, Lockout, ManualSwitch};
 use crate::sequence::{Sequence, Step, TWO};
 use anyhow::Result;
 use basics::settings::Settings;
+use controller::command::Command::{Clear, Forced, Lockout, Manual};
 use std::io::Write;
 
 const THREE: Settings = Settings { n: 3, ..TWO };
@@ -51,7 +51,7 @@ const SEQUENCES: &[Sequence] = &[
     Sequence {
         name: "P10",
         settings: TWO,
-        steps: &[Step(0x00, 0x08, &[2, 0, 0], Some(ForcedSwitch(1)))],
+        steps: &[Step(0x00, 0x08, &[2, 0, 0], Some(Forced(1)))],
     },
     Sequence {
         name: "P11",
@@ -143,7 +143,7 @@ const SEQUENCES: &[Sequence] = &[
         name: "line bits 111 and commands",
         settings: TWO,
         steps: &[
-            Step(0xA1, 0x1F, &[0, 0, 0], Some(ForcedSwitch(1))),
+            Step(0xA1, 0x1F, &[0, 0, 0], Some(Forced(1))),
             Step(0xA1, 0x1F, &[0, 0, 0], Some(Lockout)),
             Step(0xA1, 0x1F, &[3, 0, 0], None),
             Step(0xA1, 0x18, &[0, 0, 0], Some(Clear)),
@@ -173,18 +173,18 @@ const SEQUENCES: &[Sequence] = &[
             Step(0x2E, 0xE8, &[0; 15], None),
             Step(0xAF, 0x08, &[0; 15], None),
             Step(0xEE, 0xE8, &[0; 15], None),
-            Step(0x00, 0x08, &[0; 15], Some(ManualSwitch(14))),
+            Step(0x00, 0x08, &[0; 15], Some(Manual(14))),
         ],
     },
     Sequence {
         name: "commands",
         settings: TWO,
         steps: &[
-            Step(0x00, 0x08, &[0, 0, 0], Some(ManualSwitch(2))),
+            Step(0x00, 0x08, &[0, 0, 0], Some(Manual(2))),
             Step(0x22, 0x28, &[0, 0, 0], None),
-            Step(0x22, 0x28, &[0, 0, 0], Some(ManualSwitch(1))),
-            Step(0x22, 0x28, &[0, 0, 0], Some(ForcedSwitch(1))),
-            Step(0x21, 0x18, &[0, 0, 0], Some(ForcedSwitch(1))),
+            Step(0x22, 0x28, &[0, 0, 0], Some(Manual(1))),
+            Step(0x22, 0x28, &[0, 0, 0], Some(Forced(1))),
+            Step(0x21, 0x18, &[0, 0, 0], Some(Forced(1))),
             Step(0x21, 0x18, &[0, 0, 0], Some(Lockout)),
             Step(0x20, 0x08, &[0, 0, 0], None),
             Step(0x20, 0x08, &[0, 0, 0], Some(Clear)),
