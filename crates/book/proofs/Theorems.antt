@@ -41,6 +41,18 @@ use Rattle.book.proofs.hold_in.Kinds as hold-in-kinds
 use Rattle.book.proofs.hold_in.Reads as hold-in-fn
 use Rattle.book.proofs.hold_in.Statement as hold-in-statement
 use Rattle.book.proofs.hold_in.Met as hold-in-met
+use Rattle.book.proofs.Entry.hold.Kinds as hold-kinds
+use Rattle.book.proofs.Entry.hold.Reads as hold-fn
+use Rattle.book.proofs.Entry.hold.Statement as hold-statement
+use Rattle.book.proofs.Entry.hold.Met as hold-met
+use Rattle.book.proofs.Entry.settings.Kinds as settings-of-kinds
+use Rattle.book.proofs.Entry.settings.Reads as settings-of-fn
+use Rattle.book.proofs.Entry.settings.Statement as settings-of-statement
+use Rattle.book.proofs.Entry.settings.Met as settings-of-met
+use Rattle.book.proofs.Contents.captures.Kinds as captures-kinds
+use Rattle.book.proofs.Contents.captures.Reads as captures-fn
+use Rattle.book.proofs.Contents.captures.Statement as captures-statement
+use Rattle.book.proofs.Contents.captures.Met as captures-met
 use Rattle.book.proofs.body.Kinds as body-kinds
 use Rattle.book.proofs.body.Reads as body-fn
 use Rattle.book.proofs.body.Statement as body-statement
@@ -62,6 +74,15 @@ hold_in_right = hold-in-met.met
 body_right : {M : Type 1} → body-statement.statement M
 body_right = body-met.met
 
+hold_right : {M : Type 1} → hold-statement.statement M
+hold_right = hold-met.met
+
+settings_of_right : {M : Type 1} → settings-of-statement.statement M
+settings_of_right = settings-of-met.met
+
+captures_right : {M : Type 1} → captures-statement.statement M
+captures_right = captures-met.met
+
 write_right : {M : Type 1} → write-statement.statement M
 write_right = write-met.met
 
@@ -78,6 +99,12 @@ hold_in_unique κs args x y s t p q = one_value p q
 
 body_unique : OnePart 1 body-kinds.ps body-kinds.r body-fn.Post (λ κs part. part.now)
 body_unique κs args x y s t p q = one_value p q
+
+hold_unique : OneAnswer 0 hold-kinds.ps hold-kinds.r hold-fn.Post
+hold_unique κs args x y s t p q = one_value p q
+
+settings_of_unique : OneAnswer 0 settings-of-kinds.ps settings-of-kinds.r settings-of-fn.Post
+settings_of_unique κs args x y s t p q = one_value p q
 
 write_unique : OneAnswer 3 write-kinds.ps write-kinds.r write-fn.Post
 write_unique κs args x y s t p q = one_case p.0 q.0

@@ -100,6 +100,7 @@ pub fn hold_in(e: Entry) -> bool
 pub fn body(book: &[u8], e: Entry) -> &[u8]
     ensures { result.now ≡ body_of book.now e }
 {
+    // (The library has no `From` between u32 and usize.)
     let at = e.offset as usize;
     if book.len() < at {
         return &book[..0];

@@ -34,6 +34,8 @@ fn accepted(k1: u8, k2: u8, mark: Option<Mark>) -> Accepted
     }
 }
 
+// That n fits is a clause, as in `held_fits` and `acceptable`: a `Controller` may hold any n, so a type that says it would be a
+// copy of the record.
 pub(crate) fn accepting(s: Controller, failed: bool, received: Received) -> Accepted
     requires { sections_fit s.n ≡ true }
     ensures { accepted_told result ≡ accepting s failed received.k1 received.k2 }

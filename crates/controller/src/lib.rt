@@ -28,7 +28,8 @@ use pair::table::numbers;
 use request::Request;
 use request::command::Fate;
 
-// The settings n, hold, mask and W; the accepted pair; the K1 last sent; the steps of wait left; the held command as a K1,
+// The settings n, hold, mask and W, as fields of its own, since the definitions of records (`fresh`, `acceptable`, `step`) and the
+// theorems on them cite each; the accepted pair; the K1 last sent; the steps of wait left; the held command as a K1,
 // where the setting hold keeps it.
 #[derive(Clone, Copy, Debug, PartialEq, Eq)]
 pub struct Controller {
@@ -70,6 +71,7 @@ impl Controller {
         })
     }
 
+    // Command and channel are numbers here, and conditions bytes: refusals 5 to 7 are about those that are none.
     pub fn step(
         self,
         k1: u8,

@@ -28,6 +28,8 @@ fn with_marks(word: u32, heard: bool, failed: bool) -> u32
     word + u32::from(heard) * HEARD + u32::from(failed) * FAILED
 }
 
+// That a byte's channel is at most 14 is a clause here, and in four functions more: it holds of the bytes of a row that fits and of
+// a record, and a type for such a byte would be made from that same fact at each call.
 fn conditions_kept(s: Controller, heard: bool, sent: u8) -> u32
     requires { channel_of sent ≤ 14 }
     ensures { result ≡ conditions_kept s heard sent }
@@ -50,7 +52,8 @@ fn command_kept(table: &Table, hold: bool, s: Controller, k1: u8, sent: u8) -> u
 
 impl Records {
     // The next ones, in a capture that is known to be explained. `next` is not called from here too: it stands in its one
-    // caller's loop, and asks more (the judge took a quarter more time, and the causes half more).
+    // caller's loop, and asks more (tried: the judge took a quarter more time, and the causes 3.4 times what the judge takes
+    // without it; their bar is 3).
     fn follow(self, table: &Table, row: Row) -> Records
         requires { Fit self × (channel_of row.sent_k1 ≤ 14) }
         ensures { result ≡ followed self (row_in row) }
@@ -67,6 +70,8 @@ impl Records {
     }
 }
 
+// The two tables are lent side by side, as the judge's caller lends them (`chainplater_causes`).
+//
 // Forward over as many steps as the tables have; answers whether the record with the last usable pair is open at the end.
 fn keep(
     hold: bool,

@@ -79,7 +79,8 @@ pub(crate) struct Records {
     pub idle: bool,
 }
 
-// What is asked for, and its rank.
+// What is asked for, and its rank. (The controller's `RankedRequest` keeps as a fact that it is its rank. Here it is what was looked
+// up for a row, and `commanded` alone needs the fact, so that type would be no plainer.)
 #[derive(Clone, Copy)]
 pub(crate) struct Ranked {
     pub request: Request,

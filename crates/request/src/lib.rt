@@ -18,6 +18,7 @@ pub struct Request {
     pub channel: u8,
 }
 
+// Rank and channel come from tables of their own, so there is no pair of them to hand in.
 pub fn better(rank: u8, channel: u8, rank2: u8, channel2: u8) -> bool
     ensures { result ≡ better rank channel rank2 channel2 }
 {

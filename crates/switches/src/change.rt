@@ -12,6 +12,8 @@ fn last_sent(rows: &[[u8; 4]]) -> u8
     rows.last().map_or(0, |row| row[SENT])
 }
 
+// It walks as `put_changes` does, which writes the table: one walk that is handed what to do at a change is no plainer, and a
+// contract knows nothing of what such a closure has written.
 fn count_changes(rows: &[[u8; 4]], from: usize) -> usize
     requires { from ≤ length rows.now }
     ensures { length (changes (sent_of rows.now)) ≡ length (first_changes (sent_of rows.now) from) + result }
@@ -46,6 +48,7 @@ pub(crate) fn put_changes(rows: &[[u8; 4]], from: usize, known: usize, table: &m
     for step in from..rows.len() {
         let sent = rows[step][SENT];
         if sent != before {
+            // (It fits: a conversion that may fail would have an error that never comes.)
             table[number] = step as u16;
             number += 1;
         }
