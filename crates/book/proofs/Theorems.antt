@@ -49,8 +49,6 @@ use Rattle.book.proofs.Entry.settings.Kinds as settings-of-kinds
 use Rattle.book.proofs.Entry.settings.Reads as settings-of-fn
 use Rattle.book.proofs.Entry.settings.Statement as settings-of-statement
 use Rattle.book.proofs.Entry.settings.Met as settings-of-met
-use Rattle.book.proofs.Contents.captures.Kinds as captures-kinds
-use Rattle.book.proofs.Contents.captures.Reads as captures-fn
 use Rattle.book.proofs.Contents.captures.Statement as captures-statement
 use Rattle.book.proofs.Contents.captures.Met as captures-met
 use Rattle.book.proofs.body.Kinds as body-kinds

@@ -25,7 +25,7 @@ impl Table {
     pub(crate) fn number(&self, k1: u8) -> u16
         ensures { result ≡ number_for requests k1 }
     {
-        self.numbers[usize::from(k1)]
+        self.numbers[k1 as usize]
     }
 
     // The rank of a K1 whose channel some group has.
