@@ -9,10 +9,10 @@ use native.Mathlib.Numerals.{add-one}
 use native.Mathlib.Omega.{arith}
 use Rattle.std.specs.Int.{w16, w32, to_be_bytes, from_be_bytes}
 use Rattle.std.specs.Ordering.{ord_min, nat_cmp}
-use Rattle.std.proofs.lemmas.List.{drop-replicate}
+use Rattle.std.proofs.lemmas.List.{drop-replicate, take_rest}
 use lib.Seq.{drop-cons}
 use lib.ListN.{replicate, length, get_or, set, take, drop, length-set, length-drop, drop_of_length-le, get_or-eq_default}
-use lib.Seq.{set_out, set_comm, sets, sets-eq, length-sets, get_or-set_same, get_or-set_other, drop-drop, take_all, take-length}
+use lib.Seq.{set_out, set_comm, sets, sets-eq, length-sets, get_or-set_same, get_or-set_other, drop-drop, take-length}
 use Rattle.std.proofs.lemmas.List.{length-take, take-append-drop}
 use Rattle.basics.specs.Bytes.{two_at, four_at, two_bytes, four_bytes, bytes_at}
 
@@ -60,10 +60,6 @@ sets_apart (u ∷ us) vs bytes i j h =
     ap (λ (l : List ℕ). sets l (suc i) us) (sym (set_apart vs bytes i j u (omega arith)))
     ∙ sets_apart us vs (set bytes i u) (suc i) j (omega arith)
 
--- the part of a list from a place on, as a slice is cut
-pub rest_part : (at : ℕ) (bytes : List ℕ) → take (length bytes - at) (drop at bytes) ≡ drop at bytes
-rest_part at bytes = take_all (length bytes - at) (drop at bytes) (simp length-drop (omega arith))
-
 -- what is written at the start of a part, the part starting at a place, is written at that place
 pub sets_part : (values bytes : List ℕ) (at : ℕ) → at + length values ≤ length bytes
     → take at bytes ++ sets (drop at bytes) 0 values ≡ sets bytes at values
@@ -87,7 +83,7 @@ lent out part values at h e =
     let rest = drop at out in
     let none : drop (length out - at) rest ≡ [] =
     drop_of_length-le rest {i = length out - at} (simp length-drop (omega arith)) in
-    rw (none, append-nil, e, rest_part at out) (sets_part values out at h)
+    rw (none, append-nil, e, take_rest out at) (sets_part values out at h)
 
 -- what copying bytes to the start of a part leaves there
 pub copied : (source part : List ℕ) → length source ≤ length part

@@ -59,6 +59,10 @@ use Rattle.basics.proofs.refusal.Refusal.number.Kinds as number-kinds
 use Rattle.basics.proofs.refusal.Refusal.number.Reads as number-fn
 use Rattle.basics.proofs.refusal.Refusal.number.Statement as number-statement
 use Rattle.basics.proofs.refusal.Refusal.number.Met as number-met
+use Rattle.basics.proofs.refusal.number_or_0.Kinds as number-or-0-kinds
+use Rattle.basics.proofs.refusal.number_or_0.Reads as number-or-0-fn
+use Rattle.basics.proofs.refusal.number_or_0.Statement as number-or-0-statement
+use Rattle.basics.proofs.refusal.number_or_0.Met as number-or-0-met
 
 -- Each public function answers, and leaves in the memory that it was lent, what its definition says, for every input.
 -- (`statement` is the contract, as the checker reads it off the source; it asks nothing of the caller.)
@@ -85,6 +89,9 @@ size_refusal_right = size-refusal-met.met
 
 number_right : {M : Type 1} → number-statement.statement M
 number_right = number-met.met
+
+number_or_0_right : {M : Type 1} → number-or-0-statement.statement M
+number_or_0_right = number-or-0-met.met
 
 -- A number that was written where it has room is read back.
 two_right : (bytes : List ℕ) (at v : ℕ) → at + 1 < length bytes → two_at (sets bytes at (two_bytes v)) at ≡ v
@@ -206,6 +213,10 @@ settings_refusal_unique E laws copied clone dict κs args x y s t p q = one_valu
 
 number_unique : OneAnswer 0 number-kinds.ps number-kinds.r number-fn.Post
 number_unique κs args x y s t p q = one_value p q
+
+number_or_0_unique : (A : RattleType) (laws : Laws A)
+    → OneAnswer 2 (number-or-0-kinds.ps A laws) (number-or-0-kinds.r A laws) (number-or-0-fn.Post A laws)
+number_or_0_unique A laws κs args x y s t p q = one_value p q
 
 size_refusal_unique : OneAnswer 0 size-refusal-kinds.ps size-refusal-kinds.r size-refusal.Post
 size_refusal_unique κs args x y s t p q = told_one x y (one_value p q)

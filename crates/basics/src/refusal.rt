@@ -1,5 +1,5 @@
 // The numbered refusals (01, 'Numbered refusals'; 02, a, c, e and f), for every entry that may refuse.
-ghost use Rattle.basics.specs.Refusal.{refusal_number};
+ghost use Rattle.basics.specs.Refusal.{refusal_number, refusal_told};
 ghost use Rattle.std.specs.Prelude.{◌≡◌};
 
 use std::error::Error;
@@ -69,6 +69,16 @@ impl Refusal {
         ensures { result ≡ refusal_number self }
     {
         self as u8
+    }
+}
+
+/// The number of an answer's refusal, 0 where it is none.
+pub fn number_or_0<A>(answer: &Result<A, Refusal>) -> u8
+    ensures { result ≡ refusal_told answer.now }
+{
+    match answer {
+        Ok(_) => 0,
+        Err(refusal) => refusal.number(),
     }
 }
 

@@ -90,6 +90,7 @@ pub fn read(book: &[u8]) -> Result<Contents, Refusal>
     Ok(Contents { count, entries })
 }
 
+// The same, under the name that README and PROMISES have.
 pub fn hold_in(e: Entry) -> bool
     ensures { result ≡ hold_in e }
 {

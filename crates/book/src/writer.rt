@@ -33,6 +33,7 @@ fn check_entries(captures: Entries) -> Result<(), Refusal>
     Ok(())
 }
 
+// A loop: `sum` over an iterator of one's own leaves its bound to be proved all the same.
 fn steps_in(listed: Entries) -> usize
     requires { length (entries_left listed) ≤ 64 }
     ensures { (result ≡ steps_of (entries_left listed.entry)) × (result ≤ 64 * 65535) }
@@ -73,6 +74,7 @@ fn put_captures(contents: &[u8; 769], bodies: &[u8], out: &mut [u8])
 {
     let mut at = first_body(contents[0]);
     let mut left = bodies;
+    // Each body goes into a part of the output that starts at its offset: the project's form for this place.
     for (i, part) in counted(contents).enumerate() {
         let place = 2 + ENTRY * i;
         out[place..place + ENTRY].copy_from_slice(&placed_at(part, at as u32));

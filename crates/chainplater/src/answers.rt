@@ -1,4 +1,5 @@
-// The bytes of what the crates below answer; a refusal is handed on.
+// The bytes of what the crates below answer; a refusal is handed on. Settings come as C hands them in, with the options byte, by
+// which the definitions go (`fresh_for`, `RightFor`, `CausesFor`).
 ghost use Rattle.basics.specs.Bytes.{two_bytes, four_bytes};
 ghost use Rattle.basics.specs.Refusal.{refusal_told};
 ghost use Rattle.book.specs.Format.{contents_in};

@@ -26,6 +26,7 @@ use crate::answers::{
 };
 use crate::caller::put;
 use crate::record::step_bytes;
+use basics::refusal::number_or_0;
 use pair::table::value_of;
 
 #[unsafe(no_mangle)]
@@ -155,10 +156,7 @@ pub extern "C" fn chainplater_read(book: &[u8], out: &mut [u8; 769]) -> u8
     ensures value { result ≡ (reading book.now).refusal }
     ensures out_after { out.new ≡ bytes_of (reading book.now).contents }
 {
-    match book::read_into(book, out) {
-        Ok(()) => 0,
-        Err(refusal) => refusal.number(),
-    }
+    number_or_0(&book::read_into(book, out))
 }
 
 #[unsafe(no_mangle)]

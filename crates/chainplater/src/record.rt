@@ -63,7 +63,8 @@ pub(crate) fn options_refusal(bytes: &[u8; 12]) -> Refusal
     }
 }
 
-// The number, the record as it was given, and zeros.
+// The number, the record as it was given, and zeros. The record is a slice with a length here and in `outcome_bytes`: tried with an
+// array that is lent, the proof did not close, since nothing is known of its bytes.
 pub(crate) fn refused_bytes(number: u8, given: &[u8]) -> [u8; 19]
     requires { length given.now ≡ 12 }
     ensures { result ≡ refused_bytes number given.now }

@@ -12,7 +12,8 @@ use Rattle.pair.specs.Request.{requests, carries, wait_code, nothing_code, rank_
 use Rattle.pair.specs.Marks.{code_of, channel_of}
 use Rattle.pair.proofs.Ranks.{rank_own}
 use Rattle.request.specs.declared.Request.{Request}
-use Rattle.request.proofs.Order.{choice_has, or_true}
+use Rattle.request.proofs.Order.{choice_has}
+use Rattle.std.proofs.lemmas.Bool.{or_cases}
 use Rattle.controller.specs.Settings.{high, none_held}
 use Rattle.controller.specs.Rules.{request, lockout, forced, manual, wait_to_restore, no_request, asked, rank_of_request}
 use Rattle.controller.specs.Rules.{is_command, held, held_by, is_clear, kept, given, in_force, fail_code, degrade_code}
@@ -40,9 +41,9 @@ command_cases code h =
     ⊎_elim
     (λ two.
     ⊎_elim (λ lo. inl (eqb-true code 0b1111 lo)) (λ fs. inr (inl (eqb-true code 0b1110 fs)))
-    (or_true (eqb code 0b1111) (eqb code 0b1110) two))
+    (or_cases (eqb code 0b1111) (eqb code 0b1110) two))
     (λ ms. inr (inr (eqb-true code 0b1000 ms)))
-    (or_true (eqb code 0b1111 || eqb code 0b1110) (eqb code 0b1000) h)
+    (or_cases (eqb code 0b1111 || eqb code 0b1110) (eqb code 0b1000) h)
 
 pub held_kind : (last : Request) → OfKind is_command (held last)
 held_kind last = go (is_command last.code) refl
@@ -70,7 +71,7 @@ held_cases n hold k1 h =
     let carried = (and-eq-true_iff (hold && is_command (code_of k1)) (carries requests n (code_of k1) (channel_of k1))).0 some in
     let command = (and-eq-true_iff hold (is_command (code_of k1))).0 carried.0 in
     inr (command.0, command.1, carried.1))
-    (or_true (eqb k1 none_held)
+    (or_cases (eqb k1 none_held)
     (hold && is_command (code_of k1) && carries requests n (code_of k1) (channel_of k1)) h)
 
 pub held_by_kind : (n : ℕ) (hold : Bool) (k1 : ℕ) (last : Request) → held_fits n hold k1 ≡ true

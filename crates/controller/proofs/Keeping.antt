@@ -21,7 +21,7 @@ use Rattle.request.specs.Command.{fate}
 use Rattle.request.specs.Bridge.{bridge}
 use Rattle.request.specs.declared.Request.{Request}
 use Rattle.request.proofs.Channels.{bridge_within}
-use Rattle.request.proofs.Order.{or_right}
+use Rattle.std.proofs.lemmas.Bool.{or_right}
 use Rattle.controller.specs.Asking.{OfKind}
 use Rattle.controller.specs.Settings.{idle_k1, none_held, fresh, making_case, making}
 use Rattle.controller.specs.Rules.{asked, k1_of, accepting, is_command, held_by, kept, given, replaces_held, in_force, is_wait}

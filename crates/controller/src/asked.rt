@@ -15,6 +15,7 @@ pub fn asked(k1: u8) -> Request
     }
 }
 
+// That a request fits a K1 is a clause, here and where one is answered: the laws of requests speak of every code and channel.
 pub(crate) fn k1_of(r: Request) -> u8
     requires { FitsK1 r }
     ensures { result ≡ k1_of r }

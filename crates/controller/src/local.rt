@@ -74,7 +74,8 @@ fn section_at(last: Request, at: usize) -> u8
 
 // The higher rank, then the turn (01, rule 3; 02, d): section 0, the section whose request was last sent, the others from
 // 1 up. So the first hit is the answer. Command and wait may come before the sections: no two of the three kinds share a
-// rank, since each rank above 0 is one code's alone.
+// rank, since each rank above 0 is one code's alone. The nested labelled loop is the project's form for this place. Mask, section 0's
+// condition and the others come together here alone and from one call, so a struct of them is no plainer.
 pub(crate) fn local_request(
     mask: u16,
     last: Request,

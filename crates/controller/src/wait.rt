@@ -26,6 +26,7 @@ fn enters_wait(last: Request) -> bool
 }
 
 // What is left of the wait in this step.
+// The command is a number: the definition takes any, and so do the judge's calls.
 pub fn wait_of(s: Controller, last: Request, command: u8) -> u16
     ensures { result ≡ wait_of s last command }
 {

@@ -9,7 +9,7 @@ use Rattle.pair.specs.Request.{requests, carries, channel_0, nothing_code}
 use Rattle.pair.proofs.Rows.{held_in, carried_within}
 use Rattle.request.specs.Order.{same}
 use Rattle.request.specs.declared.Request.{Request}
-use Rattle.request.proofs.Order.{or_true, or_right}
+use Rattle.std.proofs.lemmas.Bool.{or_cases, or_right}
 use Rattle.request.proofs.FirstCome.{same_one}
 use Rattle.controller.specs.Rules.{request, rank_of_request, is_command, held, is_clear, given, replaces_held}
 use Rattle.controller.specs.Refusals.{channel_fits}
@@ -90,7 +90,7 @@ commanded_by prior x h = go (is_command x.code) refl
     go true e =
         let sent : not (eqb x.code 0b0000) && (same x prior || replaces_held prior x) ≡ true = rw e at h in
         let which = ((and-eq-true_iff (not (eqb x.code 0b0000)) (same x prior || replaces_held prior x)).0 sent).1 in
-        (e, ⊎_elim (λ s. inl (same_one x prior s)) inr (or_true (same x prior) (replaces_held prior x) which))
+        (e, ⊎_elim (λ s. inl (same_one x prior s)) inr (or_cases (same x prior) (replaces_held prior x) which))
     go false e = absurd (false≢true (rw e at h))
 
 -- and put together

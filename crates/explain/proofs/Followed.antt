@@ -13,7 +13,7 @@ use Rattle.pair.specs.Request.{requests, carries}
 use Rattle.request.specs.Bridge.{bridge}
 use Rattle.request.specs.Order.{may_win, better}
 use Rattle.request.specs.declared.Request.{Request}
-use Rattle.request.proofs.Order.{or_true}
+use Rattle.std.proofs.lemmas.Bool.{or_cases}
 use Rattle.controller.specs.Rules.{asked, rank_of_request, is_command, fail_code, degrade_code, keeps_bridge}
 use Rattle.controller.specs.Settings.{high, idle_k1}
 use Rattle.controller.specs.Step.{wait_of}
@@ -61,7 +61,7 @@ opened_by k1 x k2 local h =
     let two = (and-eq-true_iff (eqb x.code 0b0010 && may_win (rank_of_request far)) (eqb far.channel x.channel)).0 reverses in
     let one = (and-eq-true_iff (eqb x.code 0b0010) (may_win (rank_of_request far))).0 two.0 in
     inl (eqb-true x.code 0b0010 one.0))
-    (λ sends. inr ((and-eq-true_iff local (not loses)).0 sends).0) (or_true reversed (local && not loses) answered)
+    (λ sends. inr ((and-eq-true_iff local (not loses)).0 sends).0) (or_cases reversed (local && not loses) answered)
 
 -- and under LO no K1 makes a bridge
 lockout_bridge : (c : ℕ) → bridge c 0 false ≡ 0
@@ -105,8 +105,8 @@ module _ (d : Records) (r : Row) (goes : live (next d r) ≡ true) where
       (λ stood.
       let three = ((and-eq-true_iff (quiet && not fits && opened_idle) d.idle).0 stood).0 in
       inl (idle_k1, ((and-eq-true_iff (quiet && not fits) opened_idle).0 three).1)) inr
-      (or_true (quiet && not fits && opened_idle && d.idle) hidden sent))
-      (or_true (next d r).heard (next d r).idle goes)
+      (or_cases (quiet && not fits && opened_idle && d.idle) hidden sent))
+      (or_cases (next d r).heard (next d r).idle goes)
 
   -- LO is a command, so that a step that sends it had one; and it makes no bridge
   lockout_hidden : x.channel ≡ 0 → x.code ≡ 0b1111 → (k1 : ℕ) → opens k1 x r.sent_k2 local ≡ true → hidden ≡ true
@@ -151,7 +151,7 @@ module _ (d : Records) (r : Row) (goes : live (next d r) ≡ true) where
           (λ lo.
           let command = ((and-eq-true_iff (eqb x.code 0b1111) (command_in s x)).0 lo).1 in
           inr (inr (rw command (one_part (eqb x.code 0b0000) true (conditioned s.mask x) (waited (wait_of s (asked s.sent) 0) (asked s.sent) x) (inr (inl refl))))))
-          (or_true (eqb x.code 0b1101) (eqb x.code 0b1111 && command_in s x) both.1)
+          (or_cases (eqb x.code 0b1101) (eqb x.code 0b1111 && command_in s x) both.1)
 
   pub local_live : local ≡ is_local x
   local_live = ⊎_elim reverses (⊎_elim protects sends) sent_local

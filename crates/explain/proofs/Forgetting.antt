@@ -34,7 +34,8 @@ use Rattle.explain.proofs.Commands.{commanded_of}
 use Rattle.explain.proofs.Moving.{stands_for, far_in, sent_with, stands_in, acts_in, step_moves, acts_well, sent_able, sent_asked, sent_left}
 use Rattle.explain.proofs.Moving.{recast_sends, recast_left}
 use Rattle.explain.proofs.Without.{sent_command, decided_without}
-use Rattle.explain.proofs.Witness.{or_false, by_command}
+use Rattle.explain.proofs.Witness.{by_command}
+use Rattle.std.proofs.lemmas.Bool.{or_parts}
 
 -- what a run with hold keeps of a record
 pub record Recalls (t : Controller) : Type 0 where
@@ -237,7 +238,7 @@ module _ (t : Controller) (cause : Cause) (r : Row) (recalls : Recalls t) (sends
       where
         go : (b : Bool) → clears ≡ b → stands_for (held last) (if b then 1 else 0) 0 ≡ no_request
         go true e = refl
-        go false e = rw (or_false (is_clear cause.command) (is_command last.code) e).1
+        go false e = rw (or_parts (is_clear cause.command) (is_command last.code) e).1
 
     waits_same : wait_of t last instead ≡ now
     waits_same = go (is_clear cause.command) (is_command last.code) refl refl

@@ -10,7 +10,8 @@ use Rattle.pair.specs.Request.{requests, carries, rank_of}
 use Rattle.pair.proofs.Rows.{carried_within}
 use Rattle.request.specs.Order.{may_win, by_rank}
 use Rattle.request.specs.declared.Request.{Request}
-use Rattle.request.proofs.Order.{or_true, or_right, rank_orders}
+use Rattle.request.proofs.Order.{rank_orders}
+use Rattle.std.proofs.lemmas.Bool.{or_cases, or_right}
 use Rattle.controller.specs.Rules.{no_request, rank_of_request, held, decided}
 use Rattle.controller.specs.Step.{protection}
 use Rattle.controller.proofs.Candidates.{none_loses}
@@ -119,7 +120,7 @@ module _ (n mask w left : ℕ) (last : Request) where
       let both = (and-eq-true_iff (local_of x) (not (by_rank rank_of far x))).0 local in
       decided_by far (arises_makes mask w left last n hold shows x carried both.0)
       (rw (not-true (by_rank rank_of far x) both.1)))
-      (or_true (reversed far x) (local_of x && not (by_rank rank_of far x)) h)
+      (or_cases (reversed far x) (local_of x && not (by_rank rank_of far x)) h)
 
   -- and under a failed section 0, when the far end asks for nothing
   hidden_caused : (hold : Bool) (shows x : Request) → carries requests n x.code x.channel ≡ true

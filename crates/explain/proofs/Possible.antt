@@ -10,7 +10,7 @@ use Rattle.pair.proofs.Coding.{alarm_test}
 use Rattle.pair.proofs.Rows.{and_true}
 use Rattle.request.specs.Order.{may_win}
 use Rattle.request.specs.declared.Request.{Request}
-use Rattle.request.proofs.Order.{or_true, or_right}
+use Rattle.std.proofs.lemmas.Bool.{or_cases, or_right}
 use Rattle.controller.specs.Settings.{idle_k1, idle_k2}
 use Rattle.controller.specs.Rules.{asked, rank_of_request}
 use Rattle.controller.specs.Step.{wait_of}
@@ -57,7 +57,7 @@ live_in d = (forward, backward)
     forward : live d ≡ true → (s : Controller) × In d s
     forward h =
         ⊎_elim (λ e. (d.controller, inl (e, refl))) (λ e. (idled d.controller, inr (e, refl)))
-        (or_true d.heard d.idle h)
+        (or_cases d.heard d.idle h)
 
     backward : (s : Controller) × In d s → live d ≡ true
     backward (s, inl h) = rw h.0

@@ -14,7 +14,7 @@ use Rattle.std.specs.Prelude.{if◌then◌else◌}
 use Rattle.pair.specs.Request.{requests, carries, rank_in, rank_of}
 use Rattle.pair.specs.Marks.{code_of, channel_of, usable}
 use Rattle.request.specs.declared.Request.{Request}
-use Rattle.request.proofs.Order.{or_right}
+use Rattle.std.proofs.lemmas.Bool.{or_right, or_parts}
 use Rattle.controller.specs.Settings.{idle_k1, idle_k2, none_held, fresh}
 use Rattle.controller.specs.Rules.{no_request, asked, k1_of, rank_of_request, is_command, held, held_by, is_wait, waiting}
 use Rattle.controller.specs.Refusals.{held_fits, acceptable}
@@ -28,7 +28,7 @@ use Rattle.explain.specs.Hold.{recast, remembering, with_hold}
 use Rattle.explain.specs.Trace.{start, live, accepted_byte, next}
 use Rattle.explain.specs.declared.Records.{Records}
 use Rattle.explain.proofs.Local.{wait_unclear}
-use Rattle.explain.proofs.Witness.{or_false, held_none}
+use Rattle.explain.proofs.Witness.{held_none}
 use Rattle.explain.proofs.Moving.{stands_for, far_in, sent_with, stands_in, acts_in, step_well, sent_able, sent_asked, sent_left}
 use Rattle.explain.proofs.Moving.{recast_sends, recast_left}
 use Rattle.explain.proofs.Without.{sent_command}
@@ -168,7 +168,7 @@ module _ (s : Controller) (cause : Cause) (r : Row) (able : Able s) (sends : Sen
 
 -- with hold a clear is shown wherever a command was held and none is sent
 quiet_drops : (rank prior now : ℕ) → louder true rank prior now ≡ false → prior ≡ 0
-quiet_drops rank prior now quiet = go (ltb 0 prior) refl (or_false (ltb 0 prior && true) (ltb 0 now && leb rank 2) quiet).0
+quiet_drops rank prior now quiet = go (ltb 0 prior) refl (or_parts (ltb 0 prior && true) (ltb 0 now && leb rank 2) quiet).0
   where
     go : (t : Bool) → ltb 0 prior ≡ t → t && true ≡ false → prior ≡ 0
     go true e h = absurd (true≢false h)

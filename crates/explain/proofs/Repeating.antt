@@ -11,7 +11,7 @@ use Rattle.pair.specs.Marks.{usable, alarm_in}
 use Rattle.pair.specs.Request.{requests, carries}
 use Rattle.request.specs.Order.{same}
 use Rattle.request.specs.declared.Request.{Request}
-use Rattle.request.proofs.Order.{or_true}
+use Rattle.std.proofs.lemmas.Bool.{or_cases}
 use Rattle.controller.specs.Rules.{asked, rank_of_request, held, is_wait, left_after}
 use Rattle.controller.specs.Settings.{idle_k1, none_held}
 use Rattle.controller.specs.Step.{wait_of}
@@ -44,7 +44,7 @@ accepted_twice false received before = refl
 by_command : (a b c e : Bool) → a && (b || c && e) ≡ true → b ≡ false → e ≡ true
 by_command a b c e h none =
     let or = ((and-eq-true_iff a (b || c && e)).0 h).1 in
-    ⊎_elim (λ is. absurd (false≢true (sym none ∙ is))) (λ is. ((and-eq-true_iff c e).0 is).1) (or_true b (c && e) or)
+    ⊎_elim (λ is. absurd (false≢true (sym none ∙ is))) (λ is. ((and-eq-true_iff c e).0 is).1) (or_cases b (c && e) or)
 
 -- a command that is sent again goes on
 same_self : (x : Request) → same x x ≡ true
@@ -100,9 +100,9 @@ module _ (d : Records) (r : Row) (goes : live (next d r) ≡ true)
       (⊎_elim
       (λ three.
       ⊎_elim
-      (λ two. ⊎_elim (λ is. inl is) (λ is. inr (inl (command_again s x is))) (or_true none command two))
-      (λ is. inr (inr (inl is))) (or_true (none || command) section three))
-      (λ is. inr (inr (inr (waited_again is)))) (or_true (none || command || section) (waited now last x) h))
+      (λ two. ⊎_elim (λ is. inl is) (λ is. inr (inl (command_again s x is))) (or_cases none command two))
+      (λ is. inr (inr (inl is))) (or_cases (none || command) section three))
+      (λ is. inr (inr (inr (waited_again is)))) (or_cases (none || command || section) (waited now last x) h))
 
   local_again : local_in t x ≡ is_local x
   local_again =

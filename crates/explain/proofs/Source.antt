@@ -12,7 +12,7 @@ use Rattle.std.specs.Prelude.{if◌then◌else◌}
 use Rattle.pair.specs.Request.{requests, channel_0, a_section, rank_in, rank_of}
 use Rattle.request.specs.Order.{by_turn, OneOf}
 use Rattle.request.specs.declared.Request.{Request}
-use Rattle.request.proofs.Order.{or_right}
+use Rattle.std.proofs.lemmas.Bool.{or_right}
 use Rattle.request.proofs.FirstCome.{turn_orders}
 use Rattle.controller.specs.Settings.{high}
 use Rattle.controller.specs.Rules.{no_request, rank_of_request, is_command, held, is_clear, given, replaces_held, fail_code, degrade_code}

@@ -22,7 +22,7 @@ use Rattle.explain.specs.Scan.{Scanned, all, first, scan_from}
 use Rattle.explain.specs.Trace.{start, live, next, verdict_of, scanned}
 use Rattle.explain.specs.Verdict.{Judging, refused_by, judge_faults, RightBehind, Right}
 use Rattle.explain.specs.declared.Records.{Records}
-use Rattle.explain.proofs.Witness.{or_false}
+use Rattle.std.proofs.lemmas.Bool.{or_parts}
 use Rattle.basics.proofs.Rows.{rows_long}
 use Rattle.explain.proofs.Exact.{answer_one}
 use Rattle.explain.proofs.Judged.{scanned_right}
@@ -31,7 +31,7 @@ use Rattle.explain.proofs.Explaining.{filled_shown}
 -- what refusal 11 leaves
 pub room_fits : (steps room room2 : ℕ) → first_of (room_faults steps room room2) ≡ 0 → (steps ≤ room) × (steps ≤ room2)
 room_fits steps room room2 none =
-    let both = or_false (ltb room steps) (ltb room2 steps) ((none_exact (room_faults steps room room2) refl).0 none 0) in
+    let both = or_parts (ltb room steps) (ltb room2 steps) ((none_exact (room_faults steps room room2) refl).0 none 0) in
     (ltb-false room steps both.0, ltb-false room2 steps both.1)
 
 module _ (n : ℕ) (hold : Bool) (mask w : ℕ) (bytes old old2 : List ℕ) where

@@ -14,7 +14,7 @@ use Rattle.pair.specs.Request.{requests, carries, reverse_code, nothing_code, ra
 use Rattle.pair.proofs.Rows.{held_in, carried_within}
 use Rattle.request.specs.Order.{same}
 use Rattle.request.specs.declared.Request.{Request}
-use Rattle.request.proofs.Order.{or_true}
+use Rattle.std.proofs.lemmas.Bool.{or_cases, or_parts}
 use Rattle.request.proofs.FirstCome.{same_one}
 use Rattle.controller.specs.Settings.{high}
 use Rattle.controller.specs.Rules.{no_request, rank_of_request, fail_code, degrade_code}
@@ -32,10 +32,6 @@ use Rattle.explain.proofs.Ranking.{fail_rank, degrade_rank}
 use Rattle.explain.proofs.Commands.{command_code, Command, a_command, commanded_by}
 use Rattle.explain.proofs.Single.{only_good}
 use Rattle.explain.proofs.Local as rules
-
-pub or_false : (a b : Bool) → a || b ≡ false → (a ≡ false) × (b ≡ false)
-or_false true b h = absurd (true≢false h)
-or_false false b h = (refl, h)
 
 module _ (mask w left : ℕ) (last : Request) where
   abbrev stands_of : ℕ → ℕ → Request
@@ -77,7 +73,7 @@ module _ (mask w left : ℕ) (last : Request) where
         let none : eqb (rank_of_request (held last)) 0 ≡ false = ne_eqb (rank_of_request (held last)) 0 (omega arith) in
         let below : ltb (rank_of_request (held last)) (rank_of_request no_request) ≡ false =
         le-ltb (rank_of_request (held last)) (rank_of_request no_request) (rw none_rank zero-le) in
-        let less = leb-false rank (rank_of_request (held last)) (or_false hold (leb rank (rank_of_request (held last))) quiet).1 in
+        let less = leb-false rank (rank_of_request (held last)) (or_parts hold (leb rank (rank_of_request (held last))) quiet).1 in
         inr (rw (none, below) less)
     held_stands false none quiet =
         let zero : rank_of_request (held last) ≡ 0 =
@@ -99,7 +95,7 @@ module _ (mask w left : ℕ) (last : Request) where
         go true e = rw e (inl (rules.clear_stands mask w left last), inl refl)
         go false e =
             let both =
-            or_false (ltb 0 (rank_of_request (held last)) && (hold || leb rank (rank_of_request (held last)))) (ltb 0 (now_of 0) && leb rank 2)
+            or_parts (ltb 0 (rank_of_request (held last)) && (hold || leb rank (rank_of_request (held last)))) (ltb 0 (now_of 0) && leb rank 2)
             e in
             rw e
             (held_stands (ltb 0 (rank_of_request (held last))) refl both.0, wait_stands (ltb 0 (now_of 0)) refl both.1)
@@ -222,9 +218,9 @@ module _ (mask w left : ℕ) (last : Request) where
   -- no condition asks for a request of another code
   bad_none : (x : Request) → is_fail_or_degrade x.code ≡ false → bad_for mask x ≡ 0
   bad_none x other =
-      let three = or_false (eqb x.code 0b1101 || eqb x.code 0b1100 || eqb x.code 0b1011) (eqb x.code 0b1010) other in
-      let two = or_false (eqb x.code 0b1101 || eqb x.code 0b1100) (eqb x.code 0b1011) three.0 in
-      let one = or_false (eqb x.code 0b1101) (eqb x.code 0b1100) two.0 in
+      let three = or_parts (eqb x.code 0b1101 || eqb x.code 0b1100 || eqb x.code 0b1011) (eqb x.code 0b1010) other in
+      let two = or_parts (eqb x.code 0b1101 || eqb x.code 0b1100) (eqb x.code 0b1011) three.0 in
+      let one = or_parts (eqb x.code 0b1101) (eqb x.code 0b1100) two.0 in
       go three.1 two.1 one.1 one.0 (high mask x.channel)
     where
       go : eqb x.code 0b1010 ≡ false → eqb x.code 0b1011 ≡ false → eqb x.code 0b1100 ≡ false
@@ -451,4 +447,4 @@ module _ (mask w left : ℕ) (last : Request) where
       let by = by_command n x carried both.1 (is_louder hold (now_of 0) last far x) in
       let top : rank_of_request (condition mask 0 2) < rank_of_request x = rw (code, zero) (lit< tt) in
       command_makes n 0 2 _ _ x zero-le by.0 by.1 (lit≤ tt) (inr top))
-      (or_true (eqb x.code 0b1101) (eqb x.code 0b1111 && commanded (held last) (held x)) parts.1)
+      (or_cases (eqb x.code 0b1101) (eqb x.code 0b1111 && commanded (held last) (held x)) parts.1)

@@ -16,7 +16,7 @@ use controller::Controller;
 use controller::asked::asked;
 use pair::mark::alarm;
 
-// The marks stand where no word of conditions has a bit: a group has no section 15.
+// The marks stand where no word of conditions has a bit: a group has no section 15. (No memory is lent but the tables.)
 const HEARD: u32 = 0x4000_0000;
 
 const FAILED: u32 = 0x8000_0000;
@@ -28,7 +28,7 @@ fn with_marks(word: u32, heard: bool, failed: bool) -> u32
     word + u32::from(heard) * HEARD + u32::from(failed) * FAILED
 }
 
-// That a byte's channel is at most 14 is a clause here, and in four functions more: it holds of the bytes of a row that fits and of
+// That a byte's channel is at most 14 is a clause here, and in five functions more: it holds of the bytes of a row that fits and of
 // a record, and a type for such a byte would be made from that same fact at each call.
 fn conditions_kept(s: Controller, heard: bool, sent: u8) -> u32
     requires { channel_of sent ≤ 14 }
@@ -87,6 +87,7 @@ fn keep(
 {
     let table = Table::new();
     let mut possible = Records::start(s);
+    // By places, as `settle`: of what is written through two slices that are zipped nothing is known afterwards.
     for step in 0..conditions.len() {
         let before = possible;
         let row = Row::at(capture, 4 * step);

@@ -97,7 +97,7 @@ pub(crate) struct Row {
 }
 
 // The pair that is accepted behind a row unless section 0 has failed: the received one, if it fits, else the one before; and
-// the rank of what it asks for.
+// the rank of what it asks for. `fits` goes with no value of its own: the three others are there either way.
 #[derive(Clone, Copy)]
 pub(crate) struct Heard {
     pub fits: bool,

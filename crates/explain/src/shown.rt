@@ -8,6 +8,7 @@ use controller::command::held;
 use controller::section::condition;
 use request::Request;
 
+// Conditions and commands are numbers here, as they stand in the tables that are lent.
 fn bad_for(mask: u16, x: Request) -> u8
     ensures { result ≡ bad_for mask x }
 {

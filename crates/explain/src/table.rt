@@ -22,10 +22,11 @@ impl Table {
         Table { numbers: numbers() }
     }
 
+    #[tactic(auto, using(pair::proofs::Looking::number_at))]
     pub(crate) fn number(&self, k1: u8) -> u16
         ensures { result ≡ number_for requests k1 }
     {
-        self.numbers[k1 as usize]
+        self.numbers[usize::from(k1)]
     }
 
     // The rank of a K1 whose channel some group has.

@@ -34,7 +34,7 @@ pub enum Decoded {
 }
 
 // What the table of K1 values holds of one (02, j): its rank and the least and the greatest n for which it is usable, or the
-// mark 3 or 4 where no n makes it so.
+// mark 3 or 4 where no n makes it so, with zeros beside it (`value_of`, and what `chainplater_k1` answers).
 #[derive(Clone, Copy, Debug, PartialEq, Eq)]
 pub struct Value {
     pub rank: u8,

@@ -25,7 +25,7 @@ fn alike<const N: usize>(piece: &[u8; N], other: &[u8; N]) -> bool
     all
 }
 
-// How many pieces, from the first on, are this one.
+// How many pieces, from the first on, are this one. (`position` was tried: the proof that it finds the first other one did not close.)
 fn leading<const N: usize>(piece: &[u8; N], pieces: &[[u8; N]]) -> usize
     ensures value { result ≡ leading piece.now pieces.now }
     ensures few { result ≤ length pieces.now }

@@ -10,6 +10,8 @@ use crate::line::put_capture;
 use book::{Contents, read};
 use page::Page;
 
+// (It walks as `listing::list` does, but it promises what is put, and a contract knows nothing of what a closure has put.)
+//
 // The header, and a line for each capture of a book that was read.
 fn put_captures(page: &mut Page<'_>, book: &[u8], contents: &Contents)
     requires { Opened page.old book.now contents.now }

@@ -1,5 +1,6 @@
 -- Laws of 'better' and of 'best'. Those of 'best' hold for every order that is irreflexive and transitive, and what needs more
 -- for all `Orders`.
+use Rattle.std.proofs.lemmas.Bool.{or_cases, or_right}
 use mathlib.Core.Path.{◌≡◌, refl, sym, ap, subst, ◌∙◌}
 use mathlib.Core.Bool.{Bool, true, false, ◌&&◌, ◌||◌, and-eq-true_iff, true≢false}
 use mathlib.Core.List.{List, [], ◌∷◌, ◌++◌}
@@ -17,10 +18,6 @@ use Rattle.request.specs.declared.Request.{Request}
 abbrev Beats : ℕ → ℕ → ℕ → ℕ → Type 0
 Beats r c s d = (0 < r) × ((s < r) ⊎ ((r ≡ s) × (c < d)))
 
-pub or_true : (a b : Bool) → a || b ≡ true → (a ≡ true) ⊎ (b ≡ true)
-or_true true b h = inl refl
-or_true false b h = inr h
-
 beats : (r c s d : ℕ) → better r c s d ≡ true → Beats r c s d
 beats r c s d h =
     let both = (and-eq-true_iff (may_win r) (ltb s r || eqb r s && ltb c d)).0 h in (
@@ -29,12 +26,8 @@ beats r c s d h =
           (λ e.
           let tie = (and-eq-true_iff (eqb r s) (ltb c d)).0 e in
           inr (eqb-true r s tie.0, ltb-true c d tie.1))
-          (or_true (ltb s r) (eqb r s && ltb c d) both.1),
+          (or_cases (ltb s r) (eqb r s && ltb c d) both.1),
     )
-
-pub or_right : (a b : Bool) → b ≡ true → a || b ≡ true
-or_right true b h = refl
-or_right false b h = h
 
 beaten : (r c s d : ℕ) → Beats r c s d → better r c s d ≡ true
 beaten r c s d (wins, inl h) = rw (lt-ltb 0 r wins, lt-ltb s r h)

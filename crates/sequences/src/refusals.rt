@@ -1,6 +1,7 @@
 // Refusals 1 to 7: each alone, two at once, and what of a record or of a command is refused.
 use crate::answer::Answer;
 use crate::sequence::TWO;
+use basics::refusal::number_or_0;
 use basics::settings::Settings;
 use controller::Controller;
 use std::io;
@@ -36,10 +37,7 @@ fn print_all_fresh(out: &mut impl Write) -> io::Result<()> {
     ];
     for (n, mask) in settings {
         let settings = Settings { n, mask, ..TWO };
-        let refusal = match Controller::fresh(settings) {
-            Ok(_) => 0,
-            Err(refusal) => refusal.number(),
-        };
+        let refusal = number_or_0(&Controller::fresh(settings));
         writeln!(out, "{n} {mask}: {refusal}")?;
     }
     Ok(())

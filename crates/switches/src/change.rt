@@ -13,7 +13,7 @@ fn last_sent(rows: &[[u8; 4]]) -> u8
 }
 
 // It walks as `put_changes` does, which writes the table: one walk that is handed what to do at a change is no plainer, and a
-// contract knows nothing of what such a closure has written.
+// contract knows nothing of what such a closure has written. The same holds of `is_list_of`, which goes along a list.
 fn count_changes(rows: &[[u8; 4]], from: usize) -> usize
     requires { from ≤ length rows.now }
     ensures { length (changes (sent_of rows.now)) ≡ length (first_changes (sent_of rows.now) from) + result }
@@ -38,6 +38,8 @@ pub(crate) fn over_room(rows: &[[u8; 4]], from: usize, known: usize, room: usize
     room < known + left && room < known + count_changes(rows, from)
 }
 
+// (The steps are numbers of the whole capture, so the loop is over places.)
+//
 // Puts the changes from a step on behind the `known` entries, and answers how many entries there are then.
 pub(crate) fn put_changes(rows: &[[u8; 4]], from: usize, known: usize, table: &mut [u16]) -> usize
     requires { Fits rows.now from known table.old }

@@ -1,9 +1,10 @@
 // What reader and writer answered, and how it is printed.
 use crate::digest::{of_bytes, of_contents};
-use crate::drafts::{ROOM, front};
+use crate::drafts::ROOM;
 use crate::listing::contents_bytes;
 use basics::refusal::Refusal;
 use book::{Contents, Entry, write};
+use page::front;
 use std::alloc::{AllocError, Global};
 use std::fmt;
 

@@ -1,5 +1,6 @@
 // Contents and bodies for the writer, and the example book.
 use book::{Contents, Entry};
+use page::front;
 use std::alloc::{AllocError, Global};
 use std::{array, fmt};
 
@@ -52,11 +53,6 @@ pub(crate) fn bodies_by_rule(alloc: Global) -> Result<Vec<u8>, AllocError> {
     (0..ROOM)
         .map(|j| ((j % 256 * 7 + 3) % 256) as u8)
         .collect(alloc)
-}
-
-// The first n bytes, or all where there are fewer.
-pub(crate) fn front(bytes: &[u8], n: usize) -> &[u8] {
-    &bytes[..n.min(bytes.len())]
 }
 
 // The entries of the example book.

@@ -1,7 +1,7 @@
 // Contents in bytes by themselves, as the writer takes them: the count, then 64 places.
 use book::{Contents, Entry};
 
-// Written here too, since `book` keeps its own to itself, and its writer is what is tried.
+// An entry's bytes by the paper: `book` takes them up from contents in bytes, and has no function that makes them of an entry.
 fn entry_bytes(e: &Entry) -> [u8; 12] {
     let [m1, m2] = e.mask.to_be_bytes();
     let [w1, w2] = e.w.to_be_bytes();

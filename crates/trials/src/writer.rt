@@ -1,10 +1,11 @@
 // Refusals of the writer, alone and two at once.
 use crate::answers::Written;
-use crate::drafts::{PAPER_ENTRIES, contents_of, front};
+use crate::drafts::{PAPER_ENTRIES, contents_of};
 use Change::{Bodies, Count, First, Room, Second};
 use Setting::{Mask, N, Spare, Steps};
 use basics::refusal::Refusal;
 use book::{Contents, Entry};
+use page::front;
 use std::alloc::{AllocError, Global};
 use std::io;
 use std::io::Write;
