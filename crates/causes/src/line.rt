@@ -11,6 +11,7 @@ pub(crate) struct Conditions {
 
 impl fmt::Display for Conditions {
     fn fmt<W: fmt::Write>(&self, f: &mut fmt::Formatter<W>) -> fmt::Result {
+        // (A number's digits, the lowest first, are in no slice to go over.)
         let mut rest = self.word;
         for _c in 0..=self.n {
             write!(f, "{}", rest % 4)?;

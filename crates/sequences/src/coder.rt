@@ -83,6 +83,7 @@ impl fmt::Display for Grid {
 #[derive(Default, Drop)]
 struct PairCounts {
     refused: u32,
+    // By the number of the mark, less 1.
     marked: [u32; 5],
     alarms: u32,
     usable: u32,

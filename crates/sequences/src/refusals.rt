@@ -82,6 +82,7 @@ impl Trial {
 }
 
 // What a step is refused for, under the number of the refusal.
+// (No `Refusal`: a fault is what is spoilt, and two are put into one step.)
 #[derive(Clone, Copy)]
 enum Fault {
     Sections = 1,

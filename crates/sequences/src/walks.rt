@@ -74,7 +74,7 @@ impl Draws {
         conditions
     }
 
-    // The command and its channel, which is n + 1 at times.
+    // The command and its channel, which is n + 1 at times: numbers, since what a step refuses is drawn too.
     fn command(&mut self) -> (u8, u8) {
         match self.below(16) {
             command @ 0..3 => (command, 0),
