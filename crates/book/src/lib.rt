@@ -25,7 +25,7 @@ pub const INPUT: usize = MOST + 1;
 pub const STEPS: usize = MOST / 4;
 
 // One capture: its settings n, mask and W with a spare byte, which is 1 for hold and else 0; the offset of its body and the
-// number of its steps.
+// number of its steps. (The spare byte is no bool: refusal 25 is about its other values.)
 #[derive(Clone, Copy, Debug, Default, PartialEq, Eq)]
 pub struct Entry {
     pub n: u8,
@@ -84,6 +84,7 @@ pub fn read(book: &[u8]) -> Result<Contents, Refusal>
         left: &book[2..end],
     };
     let mut entries = [Entry::default(); 64];
+    // (By places: of what is written through `iter_mut` nothing is known afterwards.)
     for (i, part) in listed.enumerate() {
         entries[i] = entry_in(part);
     }

@@ -29,7 +29,8 @@ pub fn condition(mask: u16, c: u8, x: u8) -> Request
     Request { code, channel: c }
 }
 
-// The condition of section 0 that a step acts on: failed, where an alarm is received (02, c).
+// The condition of section 0 that a step acts on: failed, where an alarm is received (02, c). (Conditions are
+// numbers, as the lent tables have them.)
 pub(crate) fn protection(alarmed: bool, handed: u8) -> u8
     ensures { result ≡ protection (acts_on alarmed (handed ∷ [])) }
 {

@@ -29,7 +29,8 @@ pub enum Verdict {
     Unexplained(u16),
 }
 
-// Hold changes no verdict (`hold_exact` at the front door), so the scan goes by the controller without it.
+// Hold changes no verdict (`hold_exact` at the front door), so the scan goes by the controller without it. (Its first lines are
+// those of `judge_causes` but for the refusals: one function for both would be no plainer than its two lines.)
 pub fn judge(settings: Settings, capture: &[u8]) -> Result<Verdict, Refusal>
     ensures { Right settings.n settings.hold settings.mask settings.w capture.now (told result) }
 {
@@ -71,7 +72,8 @@ pub fn judge_causes(
 }
 
 // The records that the bytes so far leave open: this one, if `heard`, and this one with the idle pair accepted, if `idle`.
-// `Fit` is no ghost field of it: where nothing is left open, the definition `next` makes one that does not fit.
+// Each flag speaks of a record of its own, and no value goes with either. `Fit` is no ghost field of it: where nothing is left
+// open, the definition `next` makes one that does not fit.
 #[derive(Clone, Copy)]
 pub(crate) struct Records {
     pub controller: Controller,

@@ -4,6 +4,7 @@
 use book::INPUT;
 use report::put_table;
 
+// (As in the other programs: a crate for a file descriptor would be no plainer.)
 const STDIN: i32 = 0;
 
 const STDOUT: i32 = 1;

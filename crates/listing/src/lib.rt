@@ -7,6 +7,7 @@ use page::{BLOCK, Page};
 use std::fmt;
 use std::fmt::Write;
 
+// (As in the other programs: a crate for a file descriptor would be no plainer.)
 const STDIN: i32 = 0;
 
 // The header, and what is put for each capture of the book by its number and its entry; or the one line of a refused book.

@@ -10,6 +10,7 @@ use page::Page;
 
 // The steps of a capture, and its verdict. The last case does not come up: no capture of a book that was read is refused by the
 // judge (`captures_judged`). The judge has it for its other callers.
+// (A refusal's words are put here and not by its Display: what stands on the page is promised byte by byte.)
 fn put_verdict(page: &mut Page<'_>, steps: u16, verdict: Result<Verdict, Refusal>)
     requires { Room page.old (field steps ++ verdict_text verdict) }
     ensures { Put page.old (field steps ++ verdict_text verdict) page.new }

@@ -110,6 +110,7 @@ impl PairCounts {
         self.marked[at] = self.marked[at].saturating_add(1);
     }
 
+    // (One function for this and the one of records, with a closure, would be no plainer: it is two loops.)
     fn of_all(n: u8) -> PairCounts {
         let mut counts = PairCounts::default();
         for k1 in 0..=255 {

@@ -150,6 +150,8 @@ fn print_record(out: &mut impl Write, s: Controller) -> io::Result<()> {
     writeln!(out, "{} {:02X}: {}", s.left, s.held, answer.refusal())
 }
 
+// (Each of the five tables of records below sets other fields: one function for all five would be no plainer, since it would take a
+// closure that makes the record.)
 fn print_by_accepted(out: &mut impl Write) -> io::Result<()> {
     let accepted = [
         (0x00, 0x08),
