@@ -10,22 +10,21 @@ use crate::capture::SENT;
 pub(crate) fn is_list_of(list: &[u16], rows: &[[u8; 4]]) -> bool
     ensures { result ≡ alike list.now (changes (sent_of rows.now)) }
 {
-    let mut rest = list;
+    let mut entries = list.iter();
     let mut before = 0;
     for (step, row) in rows.iter().enumerate() {
         let sent = row[SENT];
         if sent != before {
-            let Some((entry, behind)) = rest.split_first() else {
+            let Some(entry) = entries.next() else {
                 return false;
             };
             if usize::from(*entry) != step {
                 return false;
             }
-            rest = behind;
         }
         before = sent;
     }
-    rest.is_empty()
+    entries.as_slice().is_empty()
 }
 
 // Whether the first `count` entries of the table are that. There may be fewer, so that they come as no slice (`lists` of
