@@ -50,7 +50,7 @@ impl Entry {
     {
         Settings {
             n: self.n,
-            hold: self.hold(),
+            hold: hold_in(self),
             mask: self.mask,
             w: self.w,
         }

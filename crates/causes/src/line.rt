@@ -1,6 +1,6 @@
 // The words of a cause as a line has them (02, a).
-use controller::command::read;
-use std::fmt;
+use controller::command::{Command, read};
+use page::Page;
 
 // Sections 0 to n in rising order: a word has two bits for each, section 0 lowest.
 #[derive(Clone, Copy)]
@@ -9,15 +9,15 @@ pub(crate) struct Conditions {
     pub word: u32,
 }
 
-impl fmt::Display for Conditions {
-    fn fmt<W: fmt::Write>(&self, f: &mut fmt::Formatter<W>) -> fmt::Result {
+impl Conditions {
+    pub(crate) fn put(self, page: &mut Page<'_>) {
         // (A number's digits, the lowest first, are in no slice to go over.)
         let mut rest = self.word;
         for _c in 0..=self.n {
-            write!(f, "{}", rest % 4)?;
+            page.put_number(u64::from(rest % 4));
             rest /= 4;
         }
-        Ok(())
+        page.put(b" ");
     }
 }
 
@@ -29,12 +29,16 @@ pub(crate) struct Given {
     pub word: u16,
 }
 
-impl fmt::Display for Given {
-    fn fmt<W: fmt::Write>(&self, f: &mut fmt::Formatter<W>) -> fmt::Result {
+impl Given {
+    // With the end of the line.
+    pub(crate) fn put(self, page: &mut Page<'_>) {
         let [number, channel] = self.word.to_be_bytes();
         match read(self.n, number, channel) {
-            Ok(Some(command)) => write!(f, "{command}"),
-            _ => write!(f, "none"),
+            Ok(Some(Command::Clear)) => page.put(b"clear\n"),
+            Ok(Some(Command::Lockout)) => page.put(b"LO\n"),
+            Ok(Some(Command::Forced(c))) => page.put_last(b"FS ", u64::from(c)),
+            Ok(Some(Command::Manual(c))) => page.put_last(b"MS ", u64::from(c)),
+            _ => page.put(b"none\n"),
         }
     }
 }
@@ -42,27 +46,29 @@ impl fmt::Display for Given {
 #[cfg(test)]
 mod tests {
     use super::*;
-    use std::alloc::AllocError;
 
     // The words of a cause as they are printed (02, a).
     #[test]
-    fn words_are_printed(rt: HostRuntime) -> Result<(), AllocError> {
+    fn words_are_printed(rt: HostRuntime) {
         for (word, text) in [
-            (0x0000, "none"),
-            (0x0100, "clear"),
-            (0x0200, "LO"),
-            (0x0301, "FS 1"),
-            (0x040E, "MS 14"),
+            (0x0000, "none\n"),
+            (0x0100, "clear\n"),
+            (0x0200, "LO\n"),
+            (0x0301, "FS 1\n"),
+            (0x040E, "MS 14\n"),
         ] {
-            let printed = Given { n: 14, word }.to_string(rt.alloc())?;
-            assert_eq!(rt; printed.as_str(), text);
+            let mut bytes = [0; 8];
+            let mut page = Page::new(&mut bytes);
+            Given { n: 14, word }.put(&mut page);
+            assert_eq!(rt; page.text(), text.as_bytes());
         }
+        let mut bytes = [0; 8];
+        let mut page = Page::new(&mut bytes);
         let conditions = Conditions {
             n: 3,
             word: 0b10_00_01_00,
         };
-        let printed = conditions.to_string(rt.alloc())?;
-        assert_eq!(rt; printed.as_str(), "0102");
-        Ok(())
+        conditions.put(&mut page);
+        assert_eq!(rt; page.text(), b"0102 ".as_slice());
     }
 }

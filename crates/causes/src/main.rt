@@ -15,7 +15,7 @@ fn main() {
     list(
         "capture step received sent conditions command",
         |page, book, number, e| {
-            put_capture(page, book, number, e, &mut conditions, &mut commands)
+            put_capture(page, book, number, e, &mut conditions, &mut commands);
         },
     );
 }

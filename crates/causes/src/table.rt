@@ -4,13 +4,11 @@ ghost use Rattle.explain.specs.Causes.{Causes};
 ghost use Rattle.explain.specs.Verdict.{told};
 
 use crate::line::{Conditions, Given};
+use basics::four_at;
 use basics::refusal::Refusal;
-use basics::two_at;
 use book::{Entry, body};
 use explain::{Verdict, judge_causes};
 use page::Page;
-use std::fmt;
-use std::fmt::Write;
 
 // The bytes of the longest line, '63 16383 2EE8 DEE8 000000000000002 FS 14' with its end.
 const LONGEST: usize = 41;
@@ -27,6 +25,12 @@ fn causes_of(
     judge_causes(e.settings(), body(book, e), conditions, commands)
 }
 
+fn put_pair(page: &mut Page<'_>, k1: u8, k2: u8) {
+    page.put_hex(k1);
+    page.put_hex(k2);
+    page.put(b" ");
+}
+
 // Lines as '0 1 2228 A228 001 none': the number of the capture, the step, the received and the sent pair, the conditions, the
 // command. An explained capture is explained to its last step, and each step has a word in either table; the two are lent as
 // `judge_causes` fills them.
@@ -37,20 +41,24 @@ fn put_steps(
     body: &[u8],
     conditions: &[u32],
     commands: &[u16],
-) -> fmt::Result {
+) {
     let causes = conditions.iter().zip(commands.iter());
     for (i, (row, (word, command))) in body.chunks_exact(4).zip(causes).enumerate() {
-        let received = two_at(row, 0);
-        let sent = two_at(row, 2);
-        let conditions = Conditions { n, word: *word };
-        let command = Given { n, word: *command };
+        let [k1, k2, sent_k1, sent_k2] = four_at(row, 0).to_be_bytes();
         page.next_line(LONGEST);
-        writeln!(
-            page,
-            "{number} {i} {received:04X} {sent:04X} {conditions} {command}"
-        )?;
+        page.put_field(number as u64);
+        page.put_field(i as u64);
+        put_pair(page, k1, k2);
+        put_pair(page, sent_k1, sent_k2);
+        Conditions { n, word: *word }.put(page);
+        Given { n, word: *command }.put(page);
     }
-    Ok(())
+}
+
+fn put_verdict(page: &mut Page<'_>, number: usize, word: &[u8], v: u64) {
+    page.next_line(LONGEST);
+    page.put_field(number as u64);
+    page.put_last(word, v);
 }
 
 // The last case does not come up: of a book that was read no capture is refused here (`captures_caused` of `chainplater`).
@@ -61,23 +69,14 @@ pub(crate) fn put_capture(
     e: Entry,
     conditions: &mut [u32],
     commands: &mut [u16],
-) -> fmt::Result {
+) {
     match causes_of(book, e, conditions, commands) {
-        Ok(Verdict::Explained(_)) => put_steps(
-            page,
-            number,
-            e.n,
-            body(book, e),
-            conditions,
-            commands,
-        ),
+        Ok(Verdict::Explained(_)) => {
+            put_steps(page, number, e.n, body(book, e), conditions, commands);
+        }
         Ok(Verdict::Unexplained(first)) => {
-            page.next_line(LONGEST);
-            writeln!(page, "{number} unexplained {first}")
+            put_verdict(page, number, b"unexplained ", u64::from(first));
         }
-        Err(refusal) => {
-            page.next_line(LONGEST);
-            writeln!(page, "{number} {refusal}")
-        }
+        Err(refusal) => put_verdict(page, number, b"refused ", u64::from(refusal.number())),
     }
 }

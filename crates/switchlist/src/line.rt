@@ -1,7 +1,5 @@
 // The lines of a capture: the steps at which the sent K1 changes, and what is requested from there on (02, e).
 use page::Page;
-use std::fmt;
-use std::fmt::Write;
 use switches::extend;
 
 // The bytes of the longest line, '63 16383 FF SF-H 15' with its end.
@@ -23,24 +21,22 @@ fn sent_at(body: &[u8], step: u16) -> u8 {
 // Lines as '0 0 A2 SD-L 2': the number of the capture, the step, the K1 sent there, its request, and its channel, the lower four
 // bits. Neither `else` is taken: of a book that was read no capture is refused here (`captures_listed` of `chainplater`), and the
 // changes that are counted stand in the table (`whole_right` of `switches`). They stand in the place of a proof of that.
-pub(crate) fn put_capture(
-    page: &mut Page<'_>,
-    number: usize,
-    body: &[u8],
-    table: &mut [u16],
-) -> fmt::Result {
+pub(crate) fn put_capture(page: &mut Page<'_>, number: usize, body: &[u8], table: &mut [u16]) {
     let Ok(count) = extend(body, 0, 0, table) else {
-        return Ok(());
+        return;
     };
     let Some(steps) = table.get(..usize::from(count)) else {
-        return Ok(());
+        return;
     };
     for step in steps {
         let k1 = sent_at(body, *step);
         let request = REQUESTS[usize::from(k1 / 16)];
-        let channel = k1 % 16;
         page.next_line(LONGEST);
-        writeln!(page, "{number} {step} {k1:02X} {request} {channel}")?;
+        page.put_field(number as u64);
+        page.put_field(u64::from(*step));
+        page.put_hex(k1);
+        page.put(b" ");
+        page.put(request.as_bytes());
+        page.put_last(b" ", u64::from(k1 % 16));
     }
-    Ok(())
 }

@@ -11,6 +11,6 @@ fn main() {
     // The sent K1 may change at each step.
     let mut changes = [0u16; STEPS];
     list("capture step k1 request channel", |page, book, number, e| {
-        put_capture(page, number, body(book, e), &mut changes)
+        put_capture(page, number, body(book, e), &mut changes);
     });
 }

@@ -1,13 +1,17 @@
 // Contents in bytes by themselves, as the writer takes them: the count, then 64 places.
+use basics::{put_four, put_two};
 use book::{Contents, Entry};
 
 // An entry's bytes by the paper: `book` takes them up from contents in bytes, and has no function that makes them of an entry.
 fn entry_bytes(e: &Entry) -> [u8; 12] {
-    let [m1, m2] = e.mask.to_be_bytes();
-    let [w1, w2] = e.w.to_be_bytes();
-    let [o1, o2, o3, o4] = e.offset.to_be_bytes();
-    let [s1, s2] = e.steps.to_be_bytes();
-    [e.n, e.spare, m1, m2, w1, w2, o1, o2, o3, o4, s1, s2]
+    let mut bytes = [0; 12];
+    bytes[0] = e.n;
+    bytes[1] = e.spare;
+    put_two(&mut bytes, 2, e.mask);
+    put_two(&mut bytes, 4, e.w);
+    put_four(&mut bytes, 6, e.offset);
+    put_two(&mut bytes, 10, e.steps);
+    bytes
 }
 
 pub(crate) fn contents_bytes(contents: &Contents) -> [u8; 769] {
