@@ -1,16 +1,28 @@
 // Prints the table of K1 values as data, a line for each K1 (02, j).
 #![tactic(auto)]
 
+use page::{BLOCK, Page};
 use pair::mark::Mark;
 use pair::table::value_of;
-use std::io;
 
-fn main(rt: HostRuntime) -> io::Result<()> {
-    println!(rt; "k1 rank least greatest mark")?;
+// Lines as '2B 0 11 14 0': the K1, its rank, the least and the greatest n, the number of its mark.
+fn put_value(page: &mut Page<'_>, k1: u8) {
+    let v = value_of(k1);
+    page.put_hex(k1);
+    page.put(b" ");
+    page.put_field(u64::from(v.rank));
+    page.put_field(u64::from(v.least));
+    page.put_field(u64::from(v.greatest));
+    page.put_last(b"", u64::from(Mark::number_or_0(v.mark)));
+}
+
+// All that is printed, 3,002 bytes, has room on the page: it would drop the rest, and the stored output would tell of it.
+fn main() {
+    let mut bytes = [0u8; BLOCK];
+    let mut page = Page::new(&mut bytes);
+    page.put(b"k1 rank least greatest mark\n");
     for k1 in 0..=255 {
-        let v = value_of(k1);
-        let mark = Mark::number_or_0(v.mark);
-        println!(rt; "{k1:02X} {} {} {} {mark}", v.rank, v.least, v.greatest)?;
+        put_value(&mut page, k1);
     }
-    Ok(())
+    page.write_out();
 }
