@@ -5,8 +5,8 @@ use basics::refusal::Refusal;
 use pair::mark::Mark;
 use pair::request::rank;
 use pair::{Decoded, Pair, decode, encode};
-use std::io::Write;
-use std::{fmt, io};
+use std::fmt;
+use std::fmt::Write;
 
 // A cell is four wide: the rank, m and the mark, or al.
 #[derive(Drop)]
@@ -44,7 +44,7 @@ impl Grid {
         }
     }
 
-    fn print_row(self, out: &mut impl Write, high: u8) -> io::Result<()>
+    fn print_row(self, out: &mut impl Write, high: u8) -> fmt::Result
         requires { high < 16 }
     {
         write!(out, "{high:X}x")?;
@@ -54,7 +54,7 @@ impl Grid {
         writeln!(out)
     }
 
-    fn print(self, out: &mut impl Write) -> io::Result<()> {
+    fn print(self, out: &mut impl Write) -> fmt::Result {
         writeln!(out, "{self}: rank, m and the mark, or al for an alarm")?;
         write!(out, "  ")?;
         for low in 0..16u8 {
@@ -194,7 +194,7 @@ impl fmt::Display for RecordCounts {
     }
 }
 
-fn print_pairs(out: &mut impl Write) -> io::Result<()> {
+fn print_pairs(out: &mut impl Write) -> fmt::Result {
     writeln!(
         out,
         "n, then of all 65536 pairs: refused, marks 1 to 5, alarms, usable, given back by encode"
@@ -205,7 +205,7 @@ fn print_pairs(out: &mut impl Write) -> io::Result<()> {
     writeln!(out)
 }
 
-fn print_records(out: &mut impl Write) -> io::Result<()> {
+fn print_records(out: &mut impl Write) -> fmt::Result {
     writeln!(
         out,
         "n, then of the 11664 records with code, channel and bridged 0 to 17, remote 0 and 1: refused 1, refused 10, encoded, sum of the bytes"
@@ -226,7 +226,7 @@ fn sum_of_ranks() -> u32 {
     sum
 }
 
-pub(crate) fn print_tables(out: &mut impl Write) -> io::Result<()> {
+pub(crate) fn print_tables(out: &mut impl Write) -> fmt::Result {
     for n in [2, 14] {
         for through in [Through::K1, Through::K2] {
             Grid { n, through }.print(out)?;

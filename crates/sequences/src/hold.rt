@@ -1,9 +1,9 @@
 // The setting hold (02, g): each sequence with it and then without, where rule 5 of 01 forgets what is not sent.
 use crate::sequence::{Sequence, Step, TWO};
-use anyhow::Result;
 use basics::settings::Settings;
 use controller::command::Command::{Clear, Forced, Lockout, Manual};
-use std::io::Write;
+use std::fmt;
+use std::fmt::Write;
 
 const SEQUENCES: &[Sequence] = &[
     // With hold, SF0 outranks the switch for as long as it lasts, and the switch then comes back.
@@ -54,7 +54,7 @@ const SEQUENCES: &[Sequence] = &[
     },
 ];
 
-pub(crate) fn print_sequences(out: &mut impl Write) -> Result<()> {
+pub(crate) fn print_sequences(out: &mut impl Write) -> fmt::Result {
     for sequence in SEQUENCES {
         for hold in [true, false] {
             let settings = Settings {

@@ -10,18 +10,26 @@ mod steps;
 mod table;
 mod walks;
 
-use anyhow::Result;
-use std::io;
-use std::io::{BufWriter, Write};
+use page::{BLOCK, Page};
+use std::fmt;
+use std::fmt::Write;
 
-fn main(rt: HostRuntime) -> Result<()> {
-    let mut out = BufWriter::new(rt.alloc(), io::writer(&rt))?;
-    coder::print_tables(&mut out)?;
-    steps::print_sequences(&mut out)?;
-    hold::print_sequences(&mut out)?;
-    table::print_table(&mut out)?;
-    refusals::print_refusals(&mut out)?;
-    walks::print_walks(&mut out)?;
-    out.flush()?;
-    Ok(())
+// Twice the bytes that are printed, and some more: a page drops what it has no room for, and the stored output tells of it.
+const ROOM: usize = 8 * BLOCK;
+
+fn print_all(out: &mut impl Write) -> fmt::Result {
+    coder::print_tables(out)?;
+    steps::print_sequences(out)?;
+    hold::print_sequences(out)?;
+    table::print_table(out)?;
+    refusals::print_refusals(out)?;
+    walks::print_walks(out)
+}
+
+// Nothing fails: a page takes what it is handed (`write_str_right` of `page`).
+fn main() {
+    let mut bytes = [0u8; ROOM];
+    let mut page = Page::new(&mut bytes);
+    let _ = print_all(&mut page);
+    page.write_out();
 }

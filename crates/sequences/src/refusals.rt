@@ -4,8 +4,8 @@ use crate::sequence::TWO;
 use basics::refusal::number_or_0;
 use basics::settings::Settings;
 use controller::Controller;
-use std::io;
-use std::io::Write;
+use std::fmt;
+use std::fmt::Write;
 
 // As fresh makes it of two sections, W = 3, without hold.
 const GOOD: Controller = Controller {
@@ -20,7 +20,7 @@ const GOOD: Controller = Controller {
     held: Controller::NONE_HELD,
 };
 
-fn print_all_fresh(out: &mut impl Write) -> io::Result<()> {
+fn print_all_fresh(out: &mut impl Write) -> fmt::Result {
     writeln!(out, "\nrefusals of fresh: n, mask: refusal")?;
     let settings = [
         (0, 0),
@@ -119,7 +119,7 @@ impl Fault {
     }
 }
 
-fn print_faults(out: &mut impl Write) -> io::Result<()> {
+fn print_faults(out: &mut impl Write) -> fmt::Result {
     writeln!(
         out,
         "\nrefusals of a step, by two faults: rows and columns are the faults 1 to 7\n  1 2 3 4 5 6 7"
@@ -141,7 +141,7 @@ fn print_faults(out: &mut impl Write) -> io::Result<()> {
 }
 
 // The record, and whether it is refused a step in which nothing is bad and nothing is commanded.
-fn print_record(out: &mut impl Write, s: Controller) -> io::Result<()> {
+fn print_record(out: &mut impl Write, s: Controller) -> fmt::Result {
     write!(out, "{} {} {} {} ", s.n, u8::from(s.hold), s.mask, s.w)?;
     write!(out, "{:02X} {:02X} {:02X} ", s.k1, s.k2, s.sent)?;
     let count = usize::from(s.n) + 1;
@@ -152,7 +152,7 @@ fn print_record(out: &mut impl Write, s: Controller) -> io::Result<()> {
 
 // (Each of the five tables of records below sets other fields: one function for all five would be no plainer, since it would take a
 // closure that makes the record.)
-fn print_by_accepted(out: &mut impl Write) -> io::Result<()> {
+fn print_by_accepted(out: &mut impl Write) -> fmt::Result {
     let accepted = [
         (0x00, 0x08),
         (0x00, 0x00),
@@ -168,7 +168,7 @@ fn print_by_accepted(out: &mut impl Write) -> io::Result<()> {
     Ok(())
 }
 
-fn print_by_sent(out: &mut impl Write) -> io::Result<()> {
+fn print_by_sent(out: &mut impl Write) -> fmt::Result {
     let masks_and_sent = [
         (0, 0x10),
         (0, 0xC0),
@@ -194,7 +194,7 @@ fn print_by_sent(out: &mut impl Write) -> io::Result<()> {
 }
 
 // With W = 0 no wait is good.
-fn print_by_wait(out: &mut impl Write) -> io::Result<()> {
+fn print_by_wait(out: &mut impl Write) -> fmt::Result {
     let waits = [
         (3, 0x61, 0),
         (3, 0x61, 1),
@@ -219,7 +219,7 @@ fn print_by_wait(out: &mut impl Write) -> io::Result<()> {
 }
 
 // With hold: none held, each command of two sections, then channels and requests that no command has (02, g).
-fn print_by_held(out: &mut impl Write) -> io::Result<()> {
+fn print_by_held(out: &mut impl Write) -> fmt::Result {
     let held = [
         0x00, 0xF0, 0xE1, 0xE2, 0x81, 0x82, 0xE3, 0xE0, 0x83, 0x80, 0xF1, 0x01, 0xC1, 0xD0, 0x61,
         0x22,
@@ -236,7 +236,7 @@ fn print_by_held(out: &mut impl Write) -> io::Result<()> {
 }
 
 // Nothing is held without the setting; with it, the K1 last sent is asked for nothing more than before (02, g).
-fn print_held_otherwise(out: &mut impl Write) -> io::Result<()> {
+fn print_held_otherwise(out: &mut impl Write) -> fmt::Result {
     for held in [0xF0, 0xE1, 0x81, 0x01] {
         print_record(out, Controller { held, ..GOOD })?;
     }
@@ -270,7 +270,7 @@ const FOURTEEN: Controller = Controller {
     ..GOOD
 };
 
-fn print_records(out: &mut impl Write) -> io::Result<()> {
+fn print_records(out: &mut impl Write) -> fmt::Result {
     writeln!(
         out,
         "\nrefusals by the record: n hold mask W, accepted, sent, left, held: refusal"
@@ -299,7 +299,7 @@ fn print_records(out: &mut impl Write) -> io::Result<()> {
     Ok(())
 }
 
-fn print_commands(out: &mut impl Write) -> io::Result<()> {
+fn print_commands(out: &mut impl Write) -> fmt::Result {
     writeln!(
         out,
         "\nrefusals by the command, n 2: rows are commands 0 to 5, columns channels 0 to 3\n  0 1 2 3"
@@ -315,7 +315,7 @@ fn print_commands(out: &mut impl Write) -> io::Result<()> {
     Ok(())
 }
 
-pub(crate) fn print_refusals(out: &mut impl Write) -> io::Result<()> {
+pub(crate) fn print_refusals(out: &mut impl Write) -> fmt::Result {
     print_all_fresh(out)?;
     print_faults(out)?;
     print_records(out)?;

@@ -1,11 +1,10 @@
 // A sequence of steps of one controller, and how it is printed: its settings, and a line a step.
 use crate::answer::Answer;
-use anyhow::Result;
 use basics::settings::Settings;
 use controller::Controller;
 use controller::command::{Command, channel, number};
 use std::fmt;
-use std::io::Write;
+use std::fmt::Write;
 
 // Two sections of low priority, W = 3, without hold, as most sequences have them.
 pub(crate) const TWO: Settings = Settings {
@@ -14,6 +13,24 @@ pub(crate) const TWO: Settings = Settings {
     mask: 0,
     w: 3,
 };
+
+// As a record begins. No settings of this program are refused: the zeros stand in the place of a proof of that.
+pub(crate) fn start(settings: Settings) -> Controller {
+    let Ok(controller) = Controller::fresh(settings) else {
+        return Controller {
+            n: 0,
+            hold: false,
+            mask: 0,
+            w: 0,
+            k1: 0,
+            k2: 0,
+            sent: 0,
+            left: 0,
+            held: 0,
+        };
+    };
+    controller
+}
 
 // What a step is handed: the received pair, the conditions, and the command if there is one.
 #[derive(Clone, Copy)]
@@ -45,11 +62,11 @@ pub(crate) struct Sequence {
 }
 
 impl Sequence {
-    pub(crate) fn print(&self, out: &mut impl Write) -> Result<()> {
+    pub(crate) fn print(&self, out: &mut impl Write) -> fmt::Result {
         let Settings { n, hold, mask, w } = self.settings;
         let held = if hold { " hold" } else { "" };
         writeln!(out, "{}: n {n} mask {mask} W {w}{held}", self.name)?;
-        let mut controller = Controller::fresh(self.settings)?;
+        let mut controller = start(self.settings);
         for step in self.steps {
             let answer = step.take(controller);
             writeln!(out, "{step}: {answer}")?;

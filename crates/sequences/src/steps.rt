@@ -1,9 +1,9 @@
 // The paper's sequences, and some with commands.
 use crate::sequence::{Sequence, Step, TWO};
-use anyhow::Result;
 use basics::settings::Settings;
 use controller::command::Command::{Clear, Forced, Lockout, Manual};
-use std::io::Write;
+use std::fmt;
+use std::fmt::Write;
 
 const THREE: Settings = Settings { n: 3, ..TWO };
 
@@ -203,7 +203,7 @@ const SEQUENCES: &[Sequence] = &[
     },
 ];
 
-pub(crate) fn print_sequences(out: &mut impl Write) -> Result<()> {
+pub(crate) fn print_sequences(out: &mut impl Write) -> fmt::Result {
     writeln!(
         out,
         "\nthe paper's sequences, a line per step: received, conditions, command, channel: refusal, K1 K2, bridge, selector, mark, fate"

@@ -1,10 +1,10 @@
 // Table 7-4 as corrected in document 003: both ends, a row a step, W = 1 so that the wait takes one row.
-use crate::sequence::TWO;
-use anyhow::Result;
+use crate::answer::Answer;
+use crate::sequence::{TWO, start};
 use basics::settings::Settings;
 use controller::Controller;
 use std::fmt;
-use std::io::Write;
+use std::fmt::Write;
 
 // The K1 and K2 that an end sent last, printed as their bits in groups of four.
 #[derive(Clone, Copy)]
@@ -29,26 +29,24 @@ struct End {
 }
 
 impl End {
-    fn new() -> Result<End> {
-        Ok(End {
-            controller: Controller::fresh(Settings { w: 1, ..TWO })?,
+    fn new() -> End {
+        End {
+            controller: start(Settings { w: 1, ..TWO }),
             sent: Sent { k1: 0x00, k2: 0x08 },
             selector: 0,
-        })
+        }
     }
 
     // A step on what the other end sent.
-    fn step(self, received: Sent, conditions: &[u8]) -> Result<End> {
+    fn step(self, received: Sent, conditions: &[u8]) -> End {
         let Sent { k1, k2 } = received;
-        let o = self
-            .controller
-            .step(k1, k2, conditions, 0, 0)
-            .map_err(|refused| refused.refusal)?;
-        Ok(End {
-            controller: o.controller,
-            sent: Sent { k1: o.k1, k2: o.k2 },
-            selector: o.selector,
-        })
+        let answer = Answer(self.controller.step(k1, k2, conditions, 0, 0));
+        let [_, k1, k2, _, selector, _, _] = answer.numbers();
+        End {
+            controller: answer.controller(),
+            sent: Sent { k1, k2 },
+            selector,
+        }
     }
 }
 
@@ -104,21 +102,21 @@ struct Ends {
 }
 
 impl Ends {
-    fn step(self, row: Row) -> Result<Ends> {
+    fn step(self, row: Row) -> Ends {
         let Ends { c, a } = self;
         match row {
-            C(conditions) => {
-                let c = c.step(a.sent, &conditions)?;
-                Ok(Ends { c, a })
-            }
-            A(conditions) => {
-                let a = a.step(c.sent, &conditions)?;
-                Ok(Ends { c, a })
-            }
-            Both => Ok(Ends {
-                c: c.step(a.sent, &[0, 0, 0])?,
-                a: a.step(c.sent, &[0, 0, 0])?,
-            }),
+            C(conditions) => Ends {
+                c: c.step(a.sent, &conditions),
+                a,
+            },
+            A(conditions) => Ends {
+                c,
+                a: a.step(c.sent, &conditions),
+            },
+            Both => Ends {
+                c: c.step(a.sent, &[0, 0, 0]),
+                a: a.step(c.sent, &[0, 0, 0]),
+            },
         }
     }
 }
@@ -130,17 +128,17 @@ impl fmt::Display for Ends {
     }
 }
 
-pub(crate) fn print_table(out: &mut impl Write) -> Result<()> {
+pub(crate) fn print_table(out: &mut impl Write) -> fmt::Result {
     writeln!(
         out,
         "\nTable 7-4 as corrected in document 003, n 2 mask 0 W 1: row, who steps, C to A, A to C, selectors of C and A"
     )?;
     let mut ends = Ends {
-        c: End::new()?,
-        a: End::new()?,
+        c: End::new(),
+        a: End::new(),
     };
     for (i, row) in ROWS.iter().enumerate() {
-        ends = ends.step(*row)?;
+        ends = ends.step(*row);
         writeln!(out, "{:>2} {row} {ends}", i + 1)?;
     }
     Ok(())

@@ -2,12 +2,12 @@
 ghost use Rattle.std.specs.Prelude.{◌≤◌, ◌<◌};
 
 use crate::answer::Answer;
-use anyhow::Result;
+use crate::sequence::start;
 use basics::settings::Settings;
 use controller::{Controller, Outcome};
 use request::command::Fate;
 use std::fmt;
-use std::io::Write;
+use std::fmt::Write;
 
 const STEPS: u32 = 20000;
 
@@ -151,7 +151,7 @@ impl fmt::Display for Counts {
     }
 }
 
-fn print_walk(out: &mut impl Write, n: u8, hold: bool) -> Result<()>
+fn print_walk(out: &mut impl Write, n: u8, hold: bool) -> fmt::Result
     requires { n ≤ 14 }
 {
     let mut draws = Draws {
@@ -159,7 +159,7 @@ fn print_walk(out: &mut impl Write, n: u8, hold: bool) -> Result<()>
         last: u64::from(n),
     };
     let settings = draws.settings(hold);
-    let mut controller = Controller::fresh(settings)?;
+    let mut controller = start(settings);
     let mut counts = Counts::default();
     for _ in 0..STEPS {
         let (k1, k2) = draws.pair();
@@ -171,12 +171,11 @@ fn print_walk(out: &mut impl Write, n: u8, hold: bool) -> Result<()>
         controller = answer.controller();
     }
     let Settings { mask, w, .. } = settings;
-    writeln!(out, "{n} {mask} {w}: {counts}")?;
-    Ok(())
+    writeln!(out, "{n} {mask} {w}: {counts}")
 }
 
 // The same draws for both settings of hold, so that a line of the one table stands against that of the other.
-pub(crate) fn print_walks(out: &mut impl Write) -> Result<()> {
+pub(crate) fn print_walks(out: &mut impl Write) -> fmt::Result {
     for hold in [false, true] {
         let with_hold = if hold { " with hold" } else { "" };
         writeln!(
