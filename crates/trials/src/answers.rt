@@ -1,11 +1,9 @@
 // What reader and writer answered, and how it is printed.
 use crate::digest::{of_bytes, of_contents};
-use crate::drafts::ROOM;
 use crate::listing::contents_bytes;
 use basics::refusal::Refusal;
 use book::{Contents, Entry, write};
 use page::front;
-use std::alloc::{AllocError, Global};
 use std::fmt;
 
 // The contents of a book that is refused.
@@ -49,24 +47,24 @@ impl fmt::Display for Part<'_> {
     }
 }
 
-// What the writer answered, and all of the output.
+// What the writer answered, and all of the output, which is lent: by value it would be copied at each return.
 #[derive(Drop)]
-pub(crate) struct Written {
-    out: Vec<u8>,
+pub(crate) struct Written<'a> {
+    out: &'a [u8],
     answer: Result<usize, Refusal>,
 }
 
-impl Written {
+impl<'a> Written<'a> {
     pub(crate) fn new(
-        alloc: Global,
         contents: &Contents,
         bodies: &[u8],
         room: usize,
-    ) -> Result<Written, AllocError> {
-        let mut out = vec![in alloc; 238; ROOM]?;
+        out: &'a mut [u8],
+    ) -> Written<'a> {
+        out.fill(238);
         let room = room.min(out.len());
         let answer = write(&contents_bytes(contents), bodies, &mut out[..room]);
-        Ok(Written { out, answer })
+        Written { out, answer }
     }
 
     fn size(&self) -> usize {
@@ -78,19 +76,19 @@ impl Written {
     }
 
     pub(crate) fn book(&self) -> &[u8] {
-        front(&self.out, self.size())
+        front(self.out, self.size())
     }
 }
 
 // Refusal, size and digest of the output.
-impl fmt::Display for Written {
+impl fmt::Display for Written<'_> {
     fn fmt<W: fmt::Write>(&self, f: &mut fmt::Formatter<W>) -> fmt::Result {
         write!(
             f,
             "{} {} {}",
             number(self.refusal()),
             self.size(),
-            of_bytes(&self.out)
+            of_bytes(self.out)
         )
     }
 }

@@ -1,7 +1,6 @@
 // Contents and bodies for the writer, and the example book.
 use book::{Contents, Entry};
 use page::front;
-use std::alloc::{AllocError, Global};
 use std::{array, fmt};
 
 // How many bytes of bodies are made, and of output are lent to the writer.
@@ -49,10 +48,8 @@ pub(crate) fn contents_of(listed: &[Entry]) -> Contents {
 }
 
 // Byte j is 7 j + 3.
-pub(crate) fn bodies_by_rule(alloc: Global) -> Result<Vec<u8>, AllocError> {
-    (0..ROOM)
-        .map(|j| ((j % 256 * 7 + 3) % 256) as u8)
-        .collect(alloc)
+pub(crate) fn bodies_by_rule() -> [u8; ROOM] {
+    array::from_fn(|j| ((j % 256 * 7 + 3) % 256) as u8)
 }
 
 // The entries of the example book.

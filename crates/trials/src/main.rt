@@ -12,20 +12,30 @@ mod rounds;
 mod settings;
 mod writer;
 
-use std::io;
-use std::io::{BufWriter, Write};
+use page::{BLOCK, Page};
+use std::fmt;
+use std::fmt::Write;
 
-fn main(rt: HostRuntime) -> io::Result<()> {
-    let alloc = rt.alloc();
-    let bodies = drafts::bodies_by_rule(alloc)?;
-    let mut to = BufWriter::new(alloc, io::writer(&rt))?;
-    rounds::print_rounds(&mut to, alloc, &bodies)?;
-    reader::print_faults(&mut to, alloc)?;
-    reader::print_bytes(&mut to, alloc)?;
-    reader::print_lengths(&mut to)?;
-    settings::print_reader(&mut to, alloc)?;
-    writer::print_calls(&mut to, alloc, &bodies)?;
-    settings::print_writer(&mut to, alloc, &bodies)?;
-    parts::print_parts(&mut to)?;
-    to.flush()
+// Twice the bytes that are printed, and some more: a page drops what it has no room for, and the stored output tells of it.
+const PRINTED: usize = 10 * BLOCK;
+
+fn print_all<W: Write>(to: &mut W) -> fmt::Result {
+    let bodies = drafts::bodies_by_rule();
+    let mut out = [0; drafts::ROOM];
+    rounds::print_rounds(to, &bodies, &mut out)?;
+    reader::print_faults(to)?;
+    reader::print_bytes(to)?;
+    reader::print_lengths(to)?;
+    settings::print_reader(to)?;
+    writer::print_calls(to, &bodies, &mut out)?;
+    settings::print_writer(to, &bodies, &mut out)?;
+    parts::print_parts(to)
+}
+
+// Nothing fails: a page takes what it is handed (`write_str_right` of `page`).
+fn main() {
+    let mut bytes = [0u8; PRINTED];
+    let mut page = Page::new(&mut bytes);
+    let _ = print_all(&mut page);
+    page.write_out();
 }

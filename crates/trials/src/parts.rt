@@ -2,8 +2,8 @@
 use crate::answers::Part;
 use crate::drafts::{PAPER, PLACE};
 use book::{Entry, body};
-use std::io;
-use std::io::Write;
+use std::fmt;
+use std::fmt::Write;
 
 // Offsets and steps: four of bodies that lie in the book, then those that leave it.
 const PLACES: [(u32, u16); 12] = [
@@ -21,7 +21,7 @@ const PLACES: [(u32, u16); 12] = [
     (0, 12),
 ];
 
-pub(crate) fn print_parts<W: Write>(to: &mut W) -> io::Result<()> {
+pub(crate) fn print_parts<W: Write>(to: &mut W) -> fmt::Result {
     writeln!(to, "bodies")?;
     for (offset, steps) in PLACES {
         let e = Entry {

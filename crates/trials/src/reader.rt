@@ -4,13 +4,13 @@ use crate::drafts::PAPER;
 use Change::{Byte, Length};
 use basics::refusal::Refusal;
 use book::read;
-use std::alloc::{AllocError, Global};
-use std::io;
-use std::io::Write;
+use page::front;
+use std::fmt;
+use std::fmt::Write;
 
 // The byte at a place, or the length of the book.
 #[derive(Clone, Copy, Debug, PartialEq, Eq)]
-pub(crate) enum Change {
+enum Change {
     Byte(usize, u8),
     Length(usize),
 }
@@ -53,49 +53,57 @@ const FAULTS: [&[Change]; 34] = [
     &[Byte(3, 1)],
 ];
 
-// The example book with changes, one on top of the other. Past its own bytes are zeros.
-pub(crate) fn changed(alloc: Global, changes: &[Change]) -> Result<Vec<u8>, AllocError> {
-    let mut book = PAPER.to_vec(alloc)?;
+// How long a book may be made.
+const LONGEST: usize = 65537;
+
+// No fault names a place past the end; what is asked here stands in the place of a proof of that.
+fn set_byte(book: &mut [u8], at: usize, to: u8) {
+    if let Some(b) = book.get_mut(at) {
+        *b = to;
+    }
+}
+
+// The example book with the changes of two faults, one on top of the other. What is lent has zeros past the bytes of that book, and
+// keeps them.
+fn changed<'a>(room: &'a mut [u8; LONGEST], fault: &[Change], other: &[Change]) -> &'a [u8] {
+    let mut book = *PAPER;
     let mut length = book.len();
-    for change in changes {
+    for change in fault.iter().chain(other) {
         match *change {
-            Byte(at, to) => {
-                if let Some(b) = book.get_mut(at) {
-                    *b = to;
-                }
-            }
+            Byte(at, to) => set_byte(&mut book, at, to),
             Length(to) => length = to,
         }
     }
-    book.resize(length, 0)?;
-    Ok(book)
+    room[..book.len()].copy_from_slice(&book);
+    front(room, length)
 }
 
-fn print_alone<W: Write>(to: &mut W, alloc: Global) -> io::Result<()> {
+fn print_alone<W: Write>(to: &mut W, room: &mut [u8; LONGEST]) -> fmt::Result {
     writeln!(to, "reader alone")?;
     for (f, fault) in FAULTS.iter().enumerate() {
-        let answer = read(&changed(alloc, fault)?);
+        let answer = read(changed(room, fault, &[]));
         writeln!(to, "{f} {}", Reading(&answer))?;
     }
     Ok(())
 }
 
-fn print_pairs<W: Write>(to: &mut W, alloc: Global) -> io::Result<()> {
+fn print_pairs<W: Write>(to: &mut W, room: &mut [u8; LONGEST]) -> fmt::Result {
     writeln!(to, "reader pairs")?;
     for (f, fault) in FAULTS.iter().enumerate() {
         write!(to, "{f}")?;
         for other in &FAULTS {
-            let book = changed(alloc, &[*fault, *other].concat(alloc)?)?;
-            write!(to, " {}", number(read(&book).err()))?;
+            let refusal = read(changed(room, fault, other)).err();
+            write!(to, " {}", number(refusal))?;
         }
         writeln!(to)?;
     }
     Ok(())
 }
 
-pub(crate) fn print_faults<W: Write>(to: &mut W, alloc: Global) -> io::Result<()> {
-    print_alone(to, alloc)?;
-    print_pairs(to, alloc)
+pub(crate) fn print_faults<W: Write>(to: &mut W) -> fmt::Result {
+    let mut room = [0; LONGEST];
+    print_alone(to, &mut room)?;
+    print_pairs(to, &mut room)
 }
 
 // What a book may be answered by, in the order in which it is counted.
@@ -115,19 +123,20 @@ const ANSWERS: [Option<Refusal>; 12] = [
 ];
 
 // The refusals of the example book with each value of one byte.
-fn refusals_at(alloc: Global, place: usize) -> Result<Vec<Option<Refusal>>, AllocError> {
-    let mut refusals = Vec::new(alloc);
-    for value in 0..=255 {
-        let book = changed(alloc, &[Byte(place, value)])?;
-        refusals.push(read(&book).err())?;
+fn refusals_at(place: usize) -> [Option<Refusal>; 256] {
+    let mut refusals = [None; 256];
+    for (value, refusal) in (0..=255).zip(&mut refusals) {
+        let mut book = *PAPER;
+        set_byte(&mut book, place, value);
+        *refusal = read(&book).err();
     }
-    Ok(refusals)
+    refusals
 }
 
-pub(crate) fn print_bytes<W: Write>(to: &mut W, alloc: Global) -> io::Result<()> {
+pub(crate) fn print_bytes<W: Write>(to: &mut W) -> fmt::Result {
     writeln!(to, "reader bytes")?;
     for place in 0..26 {
-        let refusals = refusals_at(alloc, place)?;
+        let refusals = refusals_at(place);
         write!(to, "{place}")?;
         for answer in &ANSWERS {
             let count = refusals.iter().filter(|r| *r == answer).count();
@@ -138,7 +147,7 @@ pub(crate) fn print_bytes<W: Write>(to: &mut W, alloc: Global) -> io::Result<()>
     Ok(())
 }
 
-pub(crate) fn print_lengths<W: Write>(to: &mut W) -> io::Result<()> {
+pub(crate) fn print_lengths<W: Write>(to: &mut W) -> fmt::Result {
     write!(to, "reader lengths\n{}", number(read(&[]).err()))?;
     for length in 1..=PAPER.len() {
         write!(to, " {}", number(read(&PAPER[..length]).err()))?;

@@ -2,11 +2,11 @@
 use crate::answers::{NOTHING_READ, Part, Reading, Written};
 use crate::drafts::{Draft, ROOM};
 use book::{Contents, Entry, body, read};
-use std::alloc::{AllocError, Global};
-use std::io;
-use std::io::Write;
+use page::Page;
+use std::fmt;
+use std::fmt::Write;
 
-fn print_entry<W: Write>(to: &mut W, book: &[u8], e: &Entry) -> io::Result<()> {
+fn print_entry<W: Write>(to: &mut W, book: &[u8], e: &Entry) -> fmt::Result {
     let Entry {
         n,
         spare,
@@ -19,17 +19,15 @@ fn print_entry<W: Write>(to: &mut W, book: &[u8], e: &Entry) -> io::Result<()> {
     writeln!(to, "{n} {spare} {mask} {w} {offset} {steps} {part}")
 }
 
-// The bodies of all entries, one behind the other.
-fn joined(alloc: Global, book: &[u8], contents: &Contents) -> Result<Vec<u8>, AllocError> {
-    let mut bodies = Vec::new(alloc);
+// The bodies of all entries, one behind the other. (All of them have room, since they lay in one book.)
+fn put_joined(joined: &mut Page<'_>, book: &[u8], contents: &Contents) {
     for e in contents.captures() {
-        bodies.extend_from_slice(body(book, *e))?;
+        joined.put(body(book, *e));
     }
-    Ok(bodies)
 }
 
-fn print_round<W: Write>(to: &mut W, alloc: Global, draft: Draft, bodies: &[u8]) -> io::Result<()> {
-    let written = Written::new(alloc, &draft.contents(), draft.bodies(bodies), ROOM)?;
+fn print_round<W: Write>(to: &mut W, draft: Draft, bodies: &[u8], out: &mut [u8]) -> fmt::Result {
+    let written = Written::new(&draft.contents(), draft.bodies(bodies), ROOM, out);
     let answer = read(written.book());
     writeln!(
         to,
@@ -40,14 +38,16 @@ fn print_round<W: Write>(to: &mut W, alloc: Global, draft: Draft, bodies: &[u8])
     for e in contents.captures() {
         print_entry(to, written.book(), e)?;
     }
-    let joined = joined(alloc, written.book(), &contents)?;
-    let again = Written::new(alloc, &contents, &joined, ROOM)?;
+    let mut bytes = [0; ROOM];
+    let mut joined = Page::new(&mut bytes);
+    put_joined(&mut joined, written.book(), &contents);
+    let again = Written::new(&contents, joined.text(), ROOM, out);
     writeln!(to, "again {again}")
 }
 
-pub(crate) fn print_rounds<W: Write>(to: &mut W, alloc: Global, bodies: &[u8]) -> io::Result<()> {
+pub(crate) fn print_rounds<W: Write>(to: &mut W, bodies: &[u8], out: &mut [u8]) -> fmt::Result {
     for draft in Draft::ALL {
-        print_round(to, alloc, draft, bodies)?;
+        print_round(to, draft, bodies, out)?;
     }
     Ok(())
 }

@@ -6,9 +6,8 @@ use Setting::{Mask, N, Spare, Steps};
 use basics::refusal::Refusal;
 use book::{Contents, Entry};
 use page::front;
-use std::alloc::{AllocError, Global};
-use std::io;
-use std::io::Write;
+use std::fmt;
+use std::fmt::Write;
 
 #[derive(Clone, Copy, Debug, PartialEq, Eq)]
 enum Setting {
@@ -112,34 +111,26 @@ impl Call {
         fault.iter().fold(self, Call::changed)
     }
 
-    fn written(self, alloc: Global, bodies: &[u8]) -> Result<Written, AllocError> {
+    fn written<'a>(self, bodies: &[u8], out: &'a mut [u8]) -> Written<'a> {
         let contents = Contents {
             count: self.count,
             ..contents_of(&[self.first, self.second])
         };
-        Written::new(alloc, &contents, front(bodies, self.bodies), self.room)
+        Written::new(&contents, front(bodies, self.bodies), self.room, out)
     }
 }
 
 // The refusal of the paper's call with other settings in its last place.
-pub(crate) fn refusal_with(
-    alloc: Global,
-    n: u8,
-    mask: u16,
-    bodies: &[u8],
-) -> Result<Option<Refusal>, AllocError> {
+pub(crate) fn refusal_with(n: u8, mask: u16, bodies: &[u8], out: &mut [u8]) -> Option<Refusal> {
     let call = Call::paper().with(&[Second(N(n)), Second(Mask(mask))]);
-    Ok(call.written(alloc, bodies)?.refusal())
+    call.written(bodies, out).refusal()
 }
 
-pub(crate) fn print_calls<W: Write>(to: &mut W, alloc: Global, bodies: &[u8]) -> io::Result<()> {
+pub(crate) fn print_calls<W: Write>(to: &mut W, bodies: &[u8], out: &mut [u8]) -> fmt::Result {
     writeln!(to, "writer")?;
     for (f, fault) in FAULTS.iter().enumerate() {
         for (g, other) in FAULTS.iter().enumerate() {
-            let written = Call::paper()
-                .with(fault)
-                .with(other)
-                .written(alloc, bodies)?;
+            let written = Call::paper().with(fault).with(other).written(bodies, out);
             writeln!(to, "{f} {g} {written}")?;
         }
     }
