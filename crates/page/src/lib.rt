@@ -2,7 +2,7 @@
 // a text that it has no room for is dropped whole.
 #![tactic(auto)]
 
-ghost use Rattle.std.specs.Prelude.{◌+◌, ◌<◌, leb, length, take, ◌≡◌};
+ghost use Rattle.std.specs.Prelude.{IsOk, ◌+◌, ◌<◌, leb, length, take, ◌≡◌};
 ghost use Rattle.page.specs.Digits.{digit_of, decimal, hexadecimal};
 ghost use Rattle.page.specs.Page.{Puts, PutsEach};
 ghost use Rattle.page.specs.Text.{field, last, line_start};
@@ -131,7 +131,10 @@ impl<'a> Page<'a> {
 impl fmt::Write for Page<'_> {
     ghost write_str_gives = { Puts };
 
-    fn write_str(&mut self, s: &str) -> fmt::Result {
+    fn write_str(&mut self, s: &str) -> fmt::Result
+        ensures none_fails { IsOk result }
+        ensures put { Puts self.old s.now self.new }
+    {
         self.put(s.as_bytes());
         Ok(())
     }
