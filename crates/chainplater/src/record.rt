@@ -8,23 +8,24 @@ ghost use Rattle.std.specs.Prelude.{length, ◌≡◌};
 
 use basics::refusal::Refusal;
 use basics::settings::settings_refusal;
+use basics::two_at;
 use controller::{Controller, Outcome, RefusedStep};
 use pair::mark::Mark;
 
 // Of options above 1 nothing is told here: a record that has them is refused before it is read.
-#[tactic(auto, unfolding(crate::specs::Record::record_in, basics::specs::Bytes::two_at))]
+#[tactic(auto, unfolding(crate::specs::Record::record_in))]
 pub(crate) fn record_in(bytes: &[u8; 12]) -> Controller
     ensures { result ≡ record_in bytes.now }
 {
     Controller {
         n: bytes[0],
         hold: bytes[1] == 1,
-        mask: u16::from_be_bytes([bytes[2], bytes[3]]),
-        w: u16::from_be_bytes([bytes[4], bytes[5]]),
+        mask: two_at(bytes, 2),
+        w: two_at(bytes, 4),
         k1: bytes[6],
         k2: bytes[7],
         sent: bytes[8],
-        left: u16::from_be_bytes([bytes[9], bytes[10]]),
+        left: two_at(bytes, 9),
         held: bytes[11],
     }
 }

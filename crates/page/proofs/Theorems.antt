@@ -3,7 +3,7 @@ use mathlib.Core.Path.{◌≡◌, refl}
 use mathlib.Core.List.{List, [], ◌∷◌, ◌++◌}
 use Prim.Native.Nat.{ℕ, ◌+◌, ◌^◌, ◌≤◌, ◌<◌}
 use lib.ListN.{length, take, drop}
-use Rattle.basics.proofs.One.{OneSeen, OneContent, OnePart, one_value}
+use Rattle.basics.proofs.One.{OneAnswer, OneSeen, OneContent, OnePart, one_value}
 use Rattle.io.specs.Digits.{last_digits, IsDigitCount}
 use Rattle.std.specs.Fmt.{WritesInCalls}
 use Rattle.page.specs.Page.{Puts}
@@ -53,6 +53,10 @@ use Rattle.page.proofs.Page.next_line.Kinds as next-line-kinds
 use Rattle.page.proofs.Page.next_line.Reads as next-line-fn
 use Rattle.page.proofs.Page.next_line.Statement as next-line-statement
 use Rattle.page.proofs.Page.next_line.Met as next-line-met
+use Rattle.page.proofs.next_line.Kinds as line-kinds
+use Rattle.page.proofs.next_line.Reads as line-fn
+use Rattle.page.proofs.next_line.Statement as line-statement
+use Rattle.page.proofs.next_line.Met as line-met
 
 -- Each public function answers, and leaves on the page, what its definition says, for every input. (`statement` is the
 -- contract, as the checker reads it off the source; it asks nothing of the caller.)
@@ -76,6 +80,9 @@ front_right = front-met.met
 
 next_line_right : {M : Type 1} → next-line-statement.statement M
 next_line_right = next-line-met.met
+
+line_begun_right : {M : Type 1} → line-statement.statement M
+line_begun_right = line-met.met
 
 new_right : {M : Type 1} → new-statement.statement M
 new_right = new-met.met
@@ -126,6 +133,9 @@ front_unique κs args x y s t p q = one_value p q
 
 next_line_unique : OneSeen 2 next-line-kinds.ps next-line-kinds.r next-line-fn.Post (λ κs. ℕ) (λ κs x exit. exit.0.now.at)
 next_line_unique κs args x y s t p q = one_value p.0 q.0
+
+line_begun_unique : OneAnswer 1 line-kinds.ps line-kinds.r line-fn.Post
+line_begun_unique κs args x y s t p q = one_value p q
 
 next_line_page_unique : OneContent 2 next-line-kinds.ps next-line-kinds.r next-line-fn.Post (λ κs exit. exit.0.now.bytes.now)
 next_line_page_unique κs args x y s t p q = one_value p.1.0 q.1.0

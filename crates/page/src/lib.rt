@@ -36,6 +36,25 @@ pub fn front(bytes: &[u8], n: usize) -> &[u8]
     &bytes[..n.min(bytes.len())]
 }
 
+// Whether so many bytes have room at a place. (The sum of the two may be too large for a usize.)
+fn has_room(size: usize, at: usize, more: usize) -> bool
+    ensures { result ≡ leb (at + more) size }
+{
+    at <= size && more <= size - at
+}
+
+// Where a line of at most so many bytes begins: behind the last one, or, once the page is written, at its start. (No contract can
+// say what is written.) A page that is only read will do.
+pub fn next_line(page: &[u8], at: usize, longest: usize) -> usize
+    ensures { result ≡ line_start (length page.now) at longest }
+{
+    if has_room(page.len(), at, longest) {
+        return at;
+    }
+    io::write_all(STDOUT, front(page, at));
+    0
+}
+
 impl<'a> Page<'a> {
     pub fn new(bytes: &'a mut [u8]) -> Page<'a>
         ensures bytes { result.bytes.now ≡ bytes.old }
@@ -45,17 +64,10 @@ impl<'a> Page<'a> {
         Page { bytes, at: 0 }
     }
 
-    // Whether so many bytes have room at the place. (The sum of the two may be too large for a usize.)
-    fn has_room(&self, more: usize) -> bool
-        ensures { result ≡ leb (self.now.at + more) (length self.now.bytes.now) }
-    {
-        self.at <= self.bytes.len() && more <= self.bytes.len() - self.at
-    }
-
     pub fn put(&mut self, text: &[u8])
         ensures { Puts self.old text.now self.new }
     {
-        if self.has_room(text.len()) {
+        if has_room(self.bytes.len(), self.at, text.len()) {
             let end = self.at + text.len();
             self.bytes[self.at..end].copy_from_slice(text);
             self.at = end;
@@ -96,16 +108,20 @@ impl<'a> Page<'a> {
         self.put(b"\n");
     }
 
-    // Where a line of at most so many bytes begins: behind the last one, or, once the page is written, at its start. (No
-    // contract can say what is written.)
+    fn line_place(&self, longest: usize) -> usize
+        ensures { result ≡ line_start (length self.now.bytes.now) self.now.at longest }
+    {
+        let at = self.at;
+        next_line(self.bytes, at, longest)
+    }
+
+    // The page's place is where a line of at most so many bytes begins (`next_line`).
     pub fn next_line(&mut self, longest: usize)
         ensures place { self.new.at ≡ line_start (length self.old.bytes.now) self.old.at longest }
         ensures page_kept { self.new.bytes.now ≡ self.old.bytes.now }
         ensures same_reference { self.new.bytes.ghost_name ≡ self.old.bytes.ghost_name }
     {
-        if !self.has_room(longest) {
-            self.write_out();
-        }
+        self.at = self.line_place(longest);
     }
 
     // What is put on the page.
