@@ -6,7 +6,7 @@ use native.Mathlib.Nat.{le_of_suc-le-suc, not-suc-le-zero}
 use native.Mathlib.Numerals.{add-one}
 use native.Mathlib.Omega.{arith}
 use lib.ListN.{length, get_or, set, drop, replicate}
-use lib.Seq.{sets, drop-drop}
+use lib.Seq.{sets, drop-cons, drop-drop}
 use borrow.Author.Tests.{lt-ltb, le-ltb, ne_eqb}
 use Rattle.std.specs.Prelude.{Ok, Err}
 use Rattle.basics.specs.Answer.{Answers}
@@ -35,6 +35,17 @@ entry_at (suc k) (suc i) bytes h =
     let far : 12 + 12 * i ≡ 12 * suc i = omega arith in
     entry_at k i (drop 12 bytes) (le_of_suc-le-suc h)
     ∙ ap entry_in (drop-drop (12 * i) 12 bytes ∙ ap (λ (n : ℕ). drop n bytes) far)
+
+-- k entries behind the first bytes: those from i on, taken one further
+pub entries_next : (k at i : ℕ) (bytes : List ℕ) → i < k
+    → drop i (entries_in k (drop at bytes))
+    ≡ entry_in (drop (at + 12 * i) bytes) ∷ drop (i + 1) (entries_in k (drop at bytes))
+entries_next k at i bytes h =
+    let entries = entries_in k (drop at bytes) in
+    let inside : i < length entries = omega (arith, length_entries k (drop at bytes)) in
+    rw (add-one, drop-cons entries i no_entry)
+    (ap (λ (e : Entry). e ∷ drop (suc i) entries)
+    (entry_at k i (drop at bytes) h ∙ ap entry_in (drop-drop (12 * i) at bytes)))
 
 -- Entries of a list are kept in 64 places, those before i already; the others are left.
 pub record Taking (all kept left : List Entry) (i : ℕ) : Type 0 where

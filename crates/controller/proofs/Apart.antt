@@ -74,6 +74,10 @@ held_cases n hold k1 h =
     (or_cases (eqb k1 none_held)
     (hold && is_command (code_of k1) && carries requests n (code_of k1) (channel_of k1)) h)
 
+-- without the setting there is none
+pub held_off : (n k1 : ℕ) → held_fits n false k1 ≡ true → k1 ≡ none_held
+held_off n k1 h = ⊎_elim (λ none. none) (λ on. absurd (true≢false (sym on.0))) (held_cases n false k1 h)
+
 pub held_by_kind : (n : ℕ) (hold : Bool) (k1 : ℕ) (last : Request) → held_fits n hold k1 ≡ true
     → OfKind is_command (held_by hold k1 last)
 held_by_kind n hold k1 last h =

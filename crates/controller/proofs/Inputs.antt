@@ -1,15 +1,18 @@
 -- What is known of a step that is not refused.
 use mathlib.Core.Path.{◌≡◌, refl}
-use mathlib.Core.Bool.{true, false, not, ◌&&◌, and-eq-true_iff}
+use mathlib.Core.Bool.{Bool, true, false, not, ◌&&◌, and-eq-true_iff}
 use mathlib.Core.List.{List}
 use Prim.Native.Nat.{ℕ, ◌+◌, ◌≤◌}
 use lib.Dec.{eqb}
-use lib.ListN.{length}
+use lib.ListN.{length, drop}
 use borrow.Author.Tests.{eqb-true, ltb-false, not-false, not-true}
+use Rattle.std.specs.Prelude.{if◌then◌else◌}
+use Rattle.basics.specs.First.{first_of}
 use Rattle.basics.specs.Settings.{sections_fit, mask_fits}
 use Rattle.basics.proofs.First.{CountedFrom, none_exact}
 use Rattle.pair.specs.Request.{requests, carries}
 use Rattle.pair.specs.Marks.{code_of, channel_of, usable}
+use Rattle.controller.specs.Settings.{settings_faults}
 use Rattle.controller.specs.Refusals.{against_mask, wait_fits, held_fits, acceptable, conditions_fit, channel_fits}
 use Rattle.controller.specs.Refusals.{step_faults, refusal}
 use Rattle.controller.specs.declared.Controller.{Controller}
@@ -82,3 +85,19 @@ acceptable_facts s h =
 pub facts_acceptable : (s : Controller) → Acceptable s → acceptable s ≡ true
 unfolding acceptable
 facts_acceptable s a = rw (a.pair_usable, a.carried, a.coded, a.waits) a.held_fits
+
+-- the refusals of the settings come first, and then the others
+by_settings : (f m : Bool) (rest : ℕ) →
+    let first : ℕ = if not f then 1 else if not m then 2 else 0 in
+    (if not f then 1 else if not m then 2 else rest) ≡ (if eqb first 0 then rest else first)
+by_settings true true rest = refl
+by_settings true false rest = refl
+by_settings false m rest = refl
+
+pub refusal_by_settings : (s : Controller) (conditions : List ℕ) (command c : ℕ) →
+    let first = first_of (settings_faults s.n s.mask) in
+    refusal s conditions command c
+    ≡ (if eqb first 0 then first_of (drop 2 (step_faults s conditions command c)) else first)
+unfolding refusal
+refusal_by_settings s conditions command c =
+    by_settings (sections_fit s.n) (mask_fits s.n s.mask) (first_of (drop 2 (step_faults s conditions command c)))

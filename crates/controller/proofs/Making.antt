@@ -8,6 +8,7 @@ use Rattle.basics.specs.Settings.{sections_fit, mask_fits, settings_checks}
 use Rattle.basics.specs.declared.refusal.Refusal.{Refusal}
 use Rattle.basics.specs.declared.refusal.Refusal.TheVariants.{Sections, Mask}
 use Rattle.basics.proofs.Fitting.{settings_fit_lem}
+use Rattle.basics.proofs.One.{answers}
 use Rattle.basics.proofs.Refusals.{number_some, with_number, settings_told}
 use Rattle.controller.specs.Settings.{fresh, settings_faults, making_told, making_case, making}
 use Rattle.controller.specs.declared.Controller.{Controller}
@@ -43,6 +44,10 @@ module _ (n : ℕ) (hold : Bool) (mask w : ℕ) where
 
   made : making_case (making n hold mask w) ≡ after_check checked (fresh n hold mask w)
   made = ap making_case (sym (told_making checked refl)) ∙ making_back (after_check checked (fresh n hold mask w))
+
+  pub made_by : {answer : Result Controller Refusal} → answer ≡ making_case (making n hold mask w)
+      → Answers making_told making_case (making n hold mask w) answer
+  made_by is = answers (ap making_told made ∙ told_making checked refl) is
 
   pub fresh_facts : (s : Controller) → making_case (making n hold mask w) ≡ Ok s
       → (s ≡ fresh n hold mask w) × (sections_fit n ≡ true) × (mask_fits n mask ≡ true)

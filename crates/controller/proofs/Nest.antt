@@ -5,9 +5,9 @@ use mathlib.Core.List.{List, ◌∷◌}
 use mathlib.Core.Logic.{◌⊎◌, inl, inr, ⊎_elim}
 use Prim.Native.Nat.{ℕ, ◌-◌, ◌<◌, ◌≤◌}
 use native.Mathlib.Omega.{arith}
-use lib.Dec.{ltb}
+use lib.Dec.{ltb, eqb}
 use lib.ListN.{length, get_or}
-use borrow.Author.Tests.{ltb-true, ltb-false}
+use borrow.Author.Tests.{eqb-true, eqb-false, ltb-true, ltb-false}
 use Rattle.pair.specs.Request.{rank_of}
 use Rattle.pair.proofs.Ranks.{rank_most}
 use Rattle.request.specs.Order.{turn, by_turn, OneOf, Orders}
@@ -73,6 +73,29 @@ module _ (nest : Nest) where
     pub turns_other : (t : ℕ) → seen t → get_or nest.ranks t 0 ≡ asked → ⊥
 
   module _ (asked : ℕ) where
+    pub none_passed : (seen : ℕ → Type 0) → ((t : ℕ) → seen t → ⊥) → (rank_of_request nest.command ≡ asked → ⊥)
+        → (rank_of_request nest.wait ≡ asked → ⊥) → Passed asked seen
+    none_passed seen none command_other wait_other =
+        record {
+          command_other = command_other;
+          wait_other = wait_other;
+          turns_other = λ t h. absurd (none t h);
+        }
+
+    -- one turn more is seen, and it has another rank
+    pub one_passed : (before after : ℕ → Type 0) (at : ℕ) → ((t : ℕ) → after t → (t ≡ at → ⊥) → before t)
+        → Passed asked before → (get_or nest.ranks at 0 ≡ asked → ⊥) → Passed asked after
+    one_passed before after at else passed other =
+        record {
+          command_other = passed.command_other;
+          wait_other = passed.wait_other;
+          turns_other = λ t h. go t h (eqb t at) refl;
+        }
+      where
+        go : (t : ℕ) → after t → (z : Bool) → eqb t at ≡ z → get_or nest.ranks t 0 ≡ asked → ⊥
+        go t h true e = rw (eqb-true t at e) other
+        go t h false e = passed.turns_other t (else t h (eqb-false t at e))
+
     -- who asks for something: the command, a section, the wait
     abbrev Asker : Request → Type 0
     Asker y = (y ≡ nest.command) ⊎ ((c : ℕ) × (c < length sections) × (y ≡ asks_at c)) ⊎ (y ≡ nest.wait)

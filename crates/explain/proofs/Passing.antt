@@ -9,6 +9,7 @@ use lib.ListN.{drop}
 use borrow.Author.Tests.{eqb-true, ltb-true, ltb-false}
 use Rattle.basics.specs.Capture.{Row}
 use Rattle.std.specs.Prelude.{if◌then◌else◌}
+use Rattle.request.specs.declared.Request.{Request}
 use Rattle.controller.specs.Rules.{asked, is_wait}
 use Rattle.controller.specs.Step.{wait_of}
 use Rattle.repeats.specs.Repeats.{same_row, run_of}
@@ -111,6 +112,14 @@ module _ (e : Records) (run : ℕ) where
       let code = eqb-true (asked e.controller.sent).code 0b0110 wait in
       let is : now ≡ e.controller.left - 1 = rw code refl in
       subst (λ (k : ℕ). passes e run ≤ k) is ((least (takes_wait (asked e.controller.sent)) now run).1 wait)
+
+-- the test that the function makes
+pub passes_by : (e : Records) (run : ℕ) {last : Request} {now : ℕ} → last ≡ asked e.controller.sent
+    → now ≡ wait_of e.controller last 0 → (t : Bool) → takes_wait last && ltb now run ≡ t → (if t then now else run) ≡ passes e run
+passes_by e run {last} {now} is waiting t test =
+    let behind : now ≡ wait_of e.controller (asked e.controller.sent) 0 =
+    waiting ∙ ap (λ (y : Request). wait_of e.controller y 0) is in
+    (λ i. if sym test i then now else run) ∙ (λ i. if takes_wait (is i) && ltb (behind i) run then behind i else run)
 
 pub scan_run : (d : Records) (r : Row) (rows : List Row) (i : ℕ) → live (next d r) ≡ true →
     let few = passes (next d r) (run_of r rows) in

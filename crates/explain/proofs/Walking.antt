@@ -38,6 +38,12 @@ module _ {bytes : List ℕ} {begin possible : Records} {at : ℕ} (w : Walk byte
       let q = w.whole in
       omega arith
 
+  pub few_steps : at / 4 < 65536
+  few_steps =
+      let p = w.within in
+      let q = w.small in
+      omega arith
+
   pub few_rows : {run : ℕ} → run ≡ repeated bytes (at + 4) → run < 65536
   few_rows repeats =
       let small = w.small in

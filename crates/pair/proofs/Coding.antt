@@ -135,6 +135,10 @@ pub fit_decoded : (n k1 k2 : ℕ) {f : Finding} → sections_fit n ≡ true → 
 unfolding decoding
 fit_decoded n k1 k2 fits e = rw (fits, e)
 
+pub unfit_by : (n k1 k2 : ℕ) (found : Finding) → sections_fit n ≡ false
+    → decoding_case (decoding_by n k1 k2 found) ≡ Err refusal.Sections
+unfit_by n k1 k2 found other = rw other
+
 -- with the number of its K1 a pair decodes as it does
 pub decoding_looked_lem : (n k1 k2 : ℕ) → decoding_looked (number_for requests k1) n k1 k2 ≡ decoding n k1 k2
 unfolding decoding_looked decoding finding

@@ -22,6 +22,9 @@ room_as {page} e room = subst (Room page) (sym e) room
 pub put_as : {before after : Page} {text other : List ℕ} → text ≡ other → Put before text after → Put before other after
 put_as {before} {after} e p = subst (λ (t : List ℕ). Put before t after) e p
 
+pub put_long : {page after : Page} {text : List ℕ} → Put page text after → length after.bytes.now ≡ length page.bytes.now
+put_long {page} {text = text} p = ap length p.stands ∙ length-sets page.bytes.now page.at text
+
 pub behind : {page between after : Page} {first second : List ℕ} → Put page first between → Put between second after
     → Put page (first ++ second) after
 behind {page} {between} {after} {first} {second} p q =
@@ -40,9 +43,9 @@ room_first {first = first} second room =
 
 pub room_behind : {page between : Page} {first second : List ℕ} → Room page (first ++ second) → Put page first between
     → Room between second
-room_behind {page} {first = first} {second} room p =
+room_behind {first = first} {second} room p =
     let long = length-append first second in
-    let same = ap length p.stands ∙ length-sets page.bytes.now page.at first in
+    let same = put_long p in
     record { fits = omega (arith, room.fits, p.ends) }
 
 -- what the page promises of one text, and of more of them

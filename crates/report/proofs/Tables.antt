@@ -128,13 +128,16 @@ printed_one {book} {before} {after' = after'} {answer' = answer'} p q =
     (p.page ∙ sym told.0, p.long ∙ sym told.1)
 
 -- the line of a refused book has room, and is its table
+pub refused_room : (page : Page) (number : ℕ) → 2048 ≤ length page.bytes.now → page.at ≡ 0
+    → Room page (ending (chars "refused ") number)
+refused_room page number large start = let short = refused_short number in record { fits = omega (arith, start) }
+
 pub refused_printed : {page after : Page} {book : List ℕ} {number shown : ℕ} → 2048 ≤ length page.bytes.now → page.at ≡ 0
     → number ≡ refusal book → (number ≡ 0 → ⊥) → shown ≡ number → PutsEach page (last (chars "refused ") shown) after
     → Printed book page.bytes.now after.bytes.now after.at
 refused_printed {page} {after} {book} {number} large start same some told put =
     let text = ending (chars "refused ") number in
-    let short = refused_short number in
-    let room : Room page text = record { fits = omega (arith, start) } in
+    let room = refused_room page number large start in
     let printed = from_start start room (ending_put (chars "refused ") refl told room put) in
     record {
       text = text;

@@ -4,13 +4,14 @@ use mathlib.Core.List.{List, [], ◌++◌, append_assoc, append-nil}
 use Prim.Native.Nat.{ℕ, ◌+◌, ◌-◌, ◌≤◌, ◌<◌}
 use native.Mathlib.Numerals.{add-one}
 use native.Mathlib.Omega.{arith}
-use lib.ListN.{length, get_or, take, drop, replicate, drop_of_length-le}
+use lib.ListN.{length, get_or, take, drop, replicate, drop_of_length-le, get_or-append}
 use lib.Seq.{drop-cons, take_at}
 use Rattle.book.specs.Format.{count_in, entries_of, places, no_entry}
 use Rattle.book.specs.declared.Contents.{Contents}
 use Rattle.book.specs.declared.Entry.{Entry}
 use Rattle.book.specs.Reader.{Reading}
 use Rattle.book.proofs.Entries.{length_entries, accepted}
+use Rattle.book.proofs.Ordered.{book_exact}
 use Rattle.page.specs.declared.Page.{Page}
 use Rattle.report.specs.Put.{Room, Put, LineRoom, PutLine, Opened, PutTable}
 use Rattle.report.specs.Table.{Answered, header, line_text, lines_text, IsVerdict}
@@ -22,6 +23,17 @@ use Rattle.report.proofs.Verdicts.{verdicts, judged_some, judged_one}
 module _ {page : Page} {book : List ℕ} {contents : Contents} (opened : Opened page book contents) where
   contents_are : contents ≡ record { count = count_in book; entries = places (entries_of book) }
   contents_are = opened.read ∙ ap (λ (r : Reading). r.contents) (accepted book opened.unrefused)
+
+  pub count_is : contents.count ≡ length (entries_of book)
+  count_is = ap (λ (c : Contents). c.count) contents_are ∙ sym (length_entries (count_in book) (drop 2 book))
+
+  pub few : contents.count ≤ 64
+  few = rw contents_are ((book_exact book).0 opened.unrefused).few
+
+  pub entry_is : (i : ℕ) → i < length (entries_of book) → get_or contents.entries i no_entry ≡ get_or (entries_of book) i no_entry
+  entry_is i h =
+      ap (λ (c : Contents). get_or c.entries i no_entry) contents_are
+      ∙ get_or-append (entries_of book) (replicate (64 - length (entries_of book)) no_entry) no_entry i h
 
   pub entries_are : take contents.count contents.entries ≡ entries_of book
   entries_are =

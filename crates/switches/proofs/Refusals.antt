@@ -12,7 +12,7 @@ use Rattle.basics.specs.Capture.{most, size_faults}
 use Rattle.basics.specs.First.{◌when◌, first_of}
 use Rattle.basics.specs.Refusal.{refusal_number, refused_or}
 use Rattle.basics.specs.declared.refusal.Refusal.{Refusal}
-use Rattle.basics.proofs.First.{first_behind, none_both, none_exact}
+use Rattle.basics.proofs.First.{first_before, first_behind, none_both, none_exact}
 use Rattle.basics.proofs.Fitting.{size_fits}
 use Rattle.basics.proofs.Refusals.{with_number, number_some}
 use Rattle.switches.specs.Changes.{sent_in, changed, changes}
@@ -39,6 +39,10 @@ few_changes bytes w =
 
 -- refusals 8, 9, 13
 module _ (bytes : List ℕ) (steps : ℕ) where
+  pub size_refused : (first_of (size_faults (length bytes)) ≡ 0 → ⊥)
+      → first_of (steps_faults bytes steps) ≡ first_of (size_faults (length bytes))
+  size_refused = first_before (size_faults (length bytes)) ((13 when ltb (length (sent_in bytes)) steps) ∷ [])
+
   behind : first_of (size_faults (length bytes)) ≡ 0
       → first_of (steps_faults bytes steps) ≡ first_of ((13 when ltb (length (sent_in bytes)) steps) ∷ [])
   behind = first_behind (size_faults (length bytes)) ((13 when ltb (length (sent_in bytes)) steps) ∷ []) refl

@@ -2,7 +2,7 @@
 use mathlib.Core.Path.{◌≡◌, refl, sym, ap, ◌∙◌}
 use mathlib.Core.Bool.{true}
 use mathlib.Core.List.{List, [], ◌∷◌, ◌++◌}
-use Prim.Native.Nat.{ℕ, zero, suc, ◌+◌, ◌/◌, ◌%◌, ◌≤◌, ◌<◌}
+use Prim.Native.Nat.{ℕ, zero, suc, ◌+◌, ◌-◌, ◌*◌, ◌/◌, ◌%◌, ◌≤◌, ◌<◌}
 use native.Mathlib.Numerals.{add-one}
 use native.Mathlib.Omega.{arith}
 use lib.Dec.{eqb}
@@ -33,6 +33,17 @@ sent_rows (a ∷ b ∷ []) = refl
 sent_rows (a ∷ []) = refl
 sent_rows [] = refl
 
+pub sent_at : (bytes : List ℕ) (step : ℕ) → length bytes % 4 ≡ 0 → get_or (sent_in bytes) step 0 ≡ get_or bytes (4 * step + 2) 0
+unfolding sent_in
+sent_at (a ∷ b ∷ c ∷ d ∷ rest) zero whole = refl
+sent_at (a ∷ b ∷ c ∷ d ∷ rest) (suc step) whole =
+    let e : 4 * suc step + 2 ≡ suc (suc (suc (suc (4 * step + 2)))) = omega arith in
+    sent_at rest step (omega arith) ∙ ap (λ (k : ℕ). get_or (a ∷ b ∷ c ∷ d ∷ rest) k 0) (sym e)
+sent_at (a ∷ b ∷ c ∷ []) step whole = absurd (omega arith)
+sent_at (a ∷ b ∷ []) step whole = absurd (omega arith)
+sent_at (a ∷ []) step whole = absurd (omega arith)
+sent_at [] step whole = refl
+
 pub sent_appended : (old more : List ℕ) → length old % 4 ≡ 0 → sent_in (old ++ more) ≡ sent_in old ++ sent_in more
 unfolding sent_in
 sent_appended (a ∷ b ∷ c ∷ d ∷ rest) more whole =
@@ -44,6 +55,11 @@ sent_appended [] more whole = refl
 
 pub before_next : (sent : List ℕ) (step : ℕ) → get_or (0 ∷ sent) (step + 1) 0 ≡ get_or sent step 0
 before_next sent step = rw (add-one step)
+
+pub before_back : (sent : List ℕ) (step : ℕ) → (step ≡ 0 → ⊥) → get_or sent (step - 1) 0 ≡ get_or (0 ∷ sent) step 0
+before_back sent step some =
+    let e : step - 1 + 1 ≡ step = omega arith in
+    sym (before_next sent (step - 1)) ∙ ap (λ (k : ℕ). get_or (0 ∷ sent) k 0) e
 
 changed_front : (sent : List ℕ) (k step : ℕ) → step < k → changed (take k sent) step ≡ changed sent step
 unfolding changed

@@ -8,6 +8,7 @@ use lib.Dec.{eqb}
 use lib.ListN.{length, get_or, take, length-append, get_or-map, length-map}
 use lib.Seq.{get_or-take, length-take-le}
 use borrow.Author.Tests.{ne_eqb, eq-eqb}
+use Rattle.std.specs.Prelude.{if◌then◌else◌}
 use Rattle.std.proofs.lemmas.List.{take-map}
 use Rattle.switches.specs.Changes.{changed}
 use Rattle.switches.specs.Walk.{sent_of, first_changes}
@@ -72,6 +73,13 @@ module _ (rows : List (List ℕ)) where
 
   pub first_more : (step : ℕ) → test step ≡ true → first_changes (sent_of rows) (step + 1) ≡ first_changes (sent_of rows) step ++ (step ∷ [])
   first_more step counts = first_next step ∙ ap (λ (t : Bool). first_changes (sent_of rows) step ++ tail t step) counts
+
+  pub first_count : (step : ℕ) (t : Bool) → test step ≡ t
+      → length (first_changes (sent_of rows) (step + 1))
+      ≡ (if t then length (first_changes (sent_of rows) step) + 1 else length (first_changes (sent_of rows) step))
+  first_count step true counts =
+      ap length (first_more step counts) ∙ length-append (first_changes (sent_of rows) step) (step ∷ [])
+  first_count step false stays = ap length (first_same step stays)
 
   pub first_few : (step : ℕ) → length (first_changes (sent_of rows) step) ≤ step
   first_few = below_few test
