@@ -123,6 +123,10 @@ put_down part source at few is room =
     rw (is, drop-drop (length source) at part, sets-eq source part at (omega arith))
     (sym (append_assoc (take at part) source (drop (at + length source) part)))
 
+pub put_front : (part source : List ℕ) → length source ≤ length part
+    → source ++ drop (length source) part ≡ sets part 0 source
+put_front part source room = rw (sets-eq source part 0 (omega arith), zero-add)
+
 -- so is the offset, in the 12 bytes of an entry
 pub part_placed : (part : List ℕ) (at : ℕ) → ((i : ℕ) → get_or part i 0 < 256) → length part ≡ 12
     → put 6 4 part (four_bytes at) ≡ entry_bytes (placed_at at (entry_in part))
