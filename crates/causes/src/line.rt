@@ -17,7 +17,6 @@ impl Conditions {
             page.put_number(u64::from(rest % 4));
             rest /= 4;
         }
-        page.put(b" ");
     }
 }
 
@@ -29,16 +28,20 @@ pub(crate) struct Given {
     pub word: u16,
 }
 
+fn put_switch(page: &mut Page<'_>, word: &[u8], channel: u8) {
+    page.put(word);
+    page.put_number(u64::from(channel));
+}
+
 impl Given {
-    // With the end of the line.
     pub(crate) fn put(self, page: &mut Page<'_>) {
         let [number, channel] = self.word.to_be_bytes();
         match read(self.n, number, channel) {
-            Ok(Some(Command::Clear)) => page.put(b"clear\n"),
-            Ok(Some(Command::Lockout)) => page.put(b"LO\n"),
-            Ok(Some(Command::Forced(c))) => page.put_last(b"FS ", u64::from(c)),
-            Ok(Some(Command::Manual(c))) => page.put_last(b"MS ", u64::from(c)),
-            _ => page.put(b"none\n"),
+            Ok(Some(Command::Clear)) => page.put(b"clear"),
+            Ok(Some(Command::Lockout)) => page.put(b"LO"),
+            Ok(Some(Command::Forced(c))) => put_switch(page, b"FS ", c),
+            Ok(Some(Command::Manual(c))) => put_switch(page, b"MS ", c),
+            _ => page.put(b"none"),
         }
     }
 }
@@ -51,11 +54,11 @@ mod tests {
     #[test]
     fn words_are_printed(rt: HostRuntime) {
         for (word, text) in [
-            (0x0000, "none\n"),
-            (0x0100, "clear\n"),
-            (0x0200, "LO\n"),
-            (0x0301, "FS 1\n"),
-            (0x040E, "MS 14\n"),
+            (0x0000, "none"),
+            (0x0100, "clear"),
+            (0x0200, "LO"),
+            (0x0301, "FS 1"),
+            (0x040E, "MS 14"),
         ] {
             let mut bytes = [0; 8];
             let mut page = Page::new(&mut bytes);
@@ -69,6 +72,6 @@ mod tests {
             word: 0b10_00_01_00,
         };
         conditions.put(&mut page);
-        assert_eq!(rt; page.text(), b"0102 ".as_slice());
+        assert_eq!(rt; page.text(), b"0102".as_slice());
     }
 }

@@ -51,7 +51,9 @@ fn put_steps(
         put_pair(page, k1, k2);
         put_pair(page, sent_k1, sent_k2);
         Conditions { n, word: *word }.put(page);
+        page.put(b" ");
         Given { n, word: *command }.put(page);
+        page.put(b"\n");
     }
 }
 
