@@ -1,7 +1,7 @@
 // Prints the table of K1 values as data, a line for each K1 (02, j).
 #![tactic(auto)]
 
-use page::{BLOCK, Page};
+use page::Page;
 use pair::mark::Mark;
 use pair::table::value_of;
 
@@ -16,13 +16,16 @@ fn put_value(page: &mut Page<'_>, k1: u8) {
     page.put_last(b"", u64::from(Mark::number_or_0(v.mark)));
 }
 
-// All that is printed, 3,002 bytes, has room on the page: it would drop the rest, and the stored output would tell of it.
+// The bytes of the longest line, the header.
+const LONGEST: usize = 28;
+
 fn main() {
-    let mut bytes = [0u8; BLOCK];
+    let mut bytes = [0u8; LONGEST];
     let mut page = Page::new(&mut bytes);
     page.put(b"k1 rank least greatest mark\n");
+    page.write_out();
     for k1 in 0..=255 {
         put_value(&mut page, k1);
+        page.write_out();
     }
-    page.write_out();
 }

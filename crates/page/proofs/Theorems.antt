@@ -45,6 +45,8 @@ use Rattle.page.proofs.Page.write_out.Statement as write-out-statement
 use Rattle.page.proofs.Page.write_out.Met as write-out-met
 use Rattle.page.proofs.PageWrite.write_str.Statement as write-str-statement
 use Rattle.page.proofs.PageWrite.write_str.Met as write-str-met
+use Rattle.page.proofs.OutputWrite.write_str.Statement as output-statement
+use Rattle.page.proofs.OutputWrite.write_str.Met as output-met
 use Rattle.page.proofs.front.Kinds as front-kinds
 use Rattle.page.proofs.front.Reads as front-fn
 use Rattle.page.proofs.front.Statement as front-statement
@@ -95,6 +97,9 @@ write_out_right = write-out-met.met
 
 write_str_right : {M : Type 1} → write-str-statement.statement M
 write_str_right = write-str-met.met
+
+output_right : {M : Type 1} → output-statement.statement M
+output_right = output-met.met
 
 -- Two places of the next text that the promise of a public function allows are equal, and so are two contents of the page. (`Post`
 -- is the function's `ensures`. A front is a part of the caller's own slice; what is decided of it is its bytes.)

@@ -1,5 +1,5 @@
-// Text on a page, for the programs that print a line for each step and for the table of a book. A page is filled from its start;
-// a text that it has no room for is dropped whole.
+// Text on a page, for the programs and for the table of a book. A page is filled from its start; a text that it has no room for is
+// dropped whole.
 #![tactic(auto)]
 
 ghost use Rattle.std.specs.Prelude.{IsOk, ◌+◌, ◌<◌, leb, length, take, ◌≡◌};
@@ -152,6 +152,20 @@ impl fmt::Write for Page<'_> {
         ensures put { Puts self.old s.now self.new }
     {
         self.put(s.as_bytes());
+        Ok(())
+    }
+}
+
+// Standard output by itself, for the programs that print piece by piece. A piece whose write fails goes unseen, and the next one is
+// tried. (No contract can say what is written.)
+#[derive(Clone, Copy)]
+pub struct Output;
+
+impl fmt::Write for Output {
+    fn write_str(&mut self, s: &str) -> fmt::Result
+        ensures none_fails { IsOk result }
+    {
+        io::write_all(STDOUT, s.as_bytes());
         Ok(())
     }
 }

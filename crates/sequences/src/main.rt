@@ -10,12 +10,9 @@ mod steps;
 mod table;
 mod walks;
 
-use page::{BLOCK, Page};
+use page::Output;
 use std::fmt;
 use std::fmt::Write;
-
-// Twice the bytes that are printed, and some more: a page drops what it has no room for, and the stored output tells of it.
-const ROOM: usize = 8 * BLOCK;
 
 fn print_all(out: &mut impl Write) -> fmt::Result {
     coder::print_tables(out)?;
@@ -26,10 +23,7 @@ fn print_all(out: &mut impl Write) -> fmt::Result {
     walks::print_walks(out)
 }
 
-// Nothing fails: a page takes what it is handed (`write_str_right` of `page`).
+// Nothing fails: a piece whose write fails goes unseen (`output_right` of `page`).
 fn main() {
-    let mut bytes = [0u8; ROOM];
-    let mut page = Page::new(&mut bytes);
-    let _ = print_all(&mut page);
-    page.write_out();
+    let _ = print_all(&mut Output);
 }

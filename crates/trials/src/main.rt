@@ -12,12 +12,9 @@ mod rounds;
 mod settings;
 mod writer;
 
-use page::{BLOCK, Page};
+use page::Output;
 use std::fmt;
 use std::fmt::Write;
-
-// Twice the bytes that are printed, and some more: a page drops what it has no room for, and the stored output tells of it.
-const PRINTED: usize = 10 * BLOCK;
 
 fn print_all<W: Write>(to: &mut W) -> fmt::Result {
     let bodies = drafts::bodies_by_rule();
@@ -32,10 +29,7 @@ fn print_all<W: Write>(to: &mut W) -> fmt::Result {
     parts::print_parts(to)
 }
 
-// Nothing fails: a page takes what it is handed (`write_str_right` of `page`).
+// Nothing fails: a piece whose write fails goes unseen (`output_right` of `page`).
 fn main() {
-    let mut bytes = [0u8; PRINTED];
-    let mut page = Page::new(&mut bytes);
-    let _ = print_all(&mut page);
-    page.write_out();
+    let _ = print_all(&mut Output);
 }
